@@ -1,4 +1,6 @@
 //! Numbers, sets of processes and labels, which every layer speaks of.
+//!
+//! **What to change where:** `numbers.rt`, `sets.rt`, `counters.rt`, `words.rt`.
 #![tactic(auto)]
 
 mod counters;

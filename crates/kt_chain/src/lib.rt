@@ -1,4 +1,7 @@
 //! Certificates: for each decided instance, who took part and the chain of messages that shows why.
+//!
+//! **What to change where:** `certificate.rt`; one record `records.rt`; a text `reading.rt`, `fault.rt`;
+//! `writing.rt`; `laws.rt`.
 #![tactic(auto)]
 
 mod certificate;

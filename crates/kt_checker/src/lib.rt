@@ -22,10 +22,14 @@
 //! **How it is proved.** `specs/Passing` says when a certificate passes, `specs/Order` which answer is right: both
 //! speak of the rows and the certificates alone, never of a walk or of a loop, so another way to read a log only has to
 //! give `IsCheckerAnswer`. `JudgeOf` (`specs/Judged`) says what a judge knows after some rows, `Gathered`
-//! (`specs/Gathered`) what instances were found to have. Exact: row by row `proofs/Judging`, `Gathering`, `FirstPlaces` and `RowByRow`;
-//! the cut of an undecided instance `Inside`; chains `Chaining`, `Links`, `Following`; what stays of an instance after
-//! its decided row `Deciding`; the list of certificates `Marking`, `Answering`. Sound: `proofs/Sound` goes from
-//! `IsPassed` to leastness, by the laws of kt_cuts.
+//! (`specs/Gathered`) what instances were found to have. Exact: row by row `proofs/Judging`, `Gathering`, `FirstPlaces`
+//! and `RowByRow`; the cut of an undecided instance `Inside`; chains `Chaining`, `Links`, `Following`; what stays of an
+//! instance after its decided row `Deciding`; the list of certificates `Marking`, `Answering`. Sound: `proofs/Sound`
+//! goes from `IsPassed` to leastness, by the laws of kt_cuts.
+//!
+//! **What to change where:** the order `checking.rt`, as a relation `specs/Order`; chains and cuts `chains.rt`,
+//! `path.rt`; one row `judge.rt`; a stored log `streaming.rt`; what it needs of instances `decisions.rt`,
+//! `firsts.rt`; the line `verdict.rt`; what a yes means `specs/Soundness`.
 #![tactic(auto)]
 
 mod chains;

@@ -1,4 +1,7 @@
 //! Checkpoints: what one process does in an instance of checkpoint.
+//!
+//! **What to change where:** `handlers.rt`; the rules `specs/Rules`; labels noted in a rollback `notes.rt`,
+//! `side.rt`.
 #![tactic(auto)]
 
 mod handlers;

@@ -4,6 +4,9 @@
 //! each member does what the commit asks of it at its own closed row, as a process has to. Each state here, once what is
 //! still to be done at closed rows is done, is that of kt_protocol's machine after the same steps, and so each log is the
 //! same.
+//!
+//! **What to change where:** a closing `specs/LateClosing`, steps `specs/LateSteps`; once all have closed
+//! `specs/OnceClosed`.
 #![tactic(auto)]
 
 mod laws;

@@ -1,4 +1,7 @@
 //! What a log means: live histories, positions, cuts, orphans, legal logs, chains.
+//!
+//! **What to change where:** a definition `specs/`, and its values in `worked.rt`; a law `laws.rt`; instances
+//! `instances.rt`; the rules as code `rule_context.rt`; choices between messages `orphans.rt`.
 #![tactic(auto)]
 
 mod cut;

@@ -2,6 +2,14 @@
 //!
 //! A fact is a value, and `specs/` says when it is so, by the definitions that the answer itself cites. Its words are a
 //! `Display` alone, and the gate's programs print each.
+//!
+//! **What to change where:** the values that are told `explanation.rt`, and when each is so `specs/Told`; their lines
+//! `lines.rt`; which of them `explaining.rt`; rows that are sought `finding.rt`; a row that breaks a rule
+//! `bad_row.rt`, `bad_rows.rt` (`specs/Laters`), the demand that it breaks `breach.rt` (`specs/Breaches`), rule by
+//! rule `breach/rules.rt`, demand by demand `breach/before.rt` and `breach/deliveries.rt`, what undid a message
+//! `undoing.rt` (`specs/Undoing`), what is in transit `waiting.rt` (`specs/Waiting`); unwilling processes
+//! `causes.rt`; certificates beside those that the log means `compared.rt`, `differing.rt` (`specs/Compared`); the
+//! orphan `orphans.rt` (`specs/Orphans`); after a yes `judged.rt`, `log_end.rt` (`specs/Judged`).
 #![tactic(auto)]
 
 mod bad_row;

@@ -1,4 +1,7 @@
 //! Channels: one first-in first-out list of parcels for each ordered pair of processes.
+//!
+//! **What to change where:** calls `channels.rt`; one list `fifo.rt`; parcels `parcels.rt`; a number by process
+//! `counts.rt`, what is counted `specs/Counts`.
 #![tactic(auto)]
 
 mod channels;

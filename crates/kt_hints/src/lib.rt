@@ -1,4 +1,7 @@
 //! What is told of a fault to the person who made the mistake: lines below the fault's line, and what they show of texts.
+//!
+//! **What to change where:** a line below a fault `shown.rt`; a line of a text `lines.rt`, a record `records.rt`, a
+//! log's row `rows.rt`, what is expected of one `forms.rt`, limits that it exceeds `limits.rt`.
 #![tactic(auto)]
 
 pub mod forms;

@@ -13,6 +13,9 @@
 //! **Orphans.** A history keeps its receives by sender, and its sends, in rising order, with a count of sends before
 //! each deed (`IsSorted` of `specs/Sorted`). So the least orphan of a cut is the least of those found pair by pair, and
 //! of the messages that were undone while received, each of which is tested.
+//!
+//! **What to change where:** lowest first: `messages.rt`, `history.rt`, `process.rt`, `tables.rt`, row by row
+//! `replay.rt`; rules of messages `legality.rt`; answers `histories.rt`, `orphans.rt`.
 #![tactic(auto)]
 
 mod histories;

@@ -1,5 +1,7 @@
 //! Channels changed at the beginning and at the end of an instance: asks and decisions put, kept parcels let go or held
 //! again, and room made for that beforehand.
+//!
+//! **What to change where:** asks and decisions `puts.rt`; kept parcels `kept.rt`; room `rooms.rt`.
 #![tactic(auto)]
 
 mod kept;

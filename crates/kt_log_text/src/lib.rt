@@ -1,4 +1,7 @@
 //! The text of a log: read, row by row or whole, and written.
+//!
+//! **What to change where:** how a row is spelled `rows.rt`; formats and faults `reading.rt`, `fault.rt`;
+//! `writing.rt`; `laws.rt`.
 #![tactic(auto)]
 
 mod fault;

@@ -1,4 +1,7 @@
 //! Recoverable objects, the slots that they hold, and the saved states of one process.
+//!
+//! **What to change where:** the interface `objects.rt`; kinds `sums.rt`, `lasts.rt`, `tails.rt`; saved bytes
+//! `numbers.rt`; `slots.rt`; `depots.rt`.
 #![tactic(auto)]
 
 mod depots;

@@ -1,4 +1,6 @@
 //! What checkpoints and rollbacks share: a process's part in an instance, and what follows from a step of it.
+//!
+//! **What to change where:** `part.rt`; `asks.rt`; `actions.rt`.
 #![tactic(auto)]
 
 mod actions;

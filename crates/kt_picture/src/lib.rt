@@ -1,4 +1,12 @@
 //! A run as a picture: the space-time diagram of some rows of a log, as one SVG document.
+//!
+//! **What to change where:** the whole `drawing.rt`; row by row beside a walk `diagram.rt`, messages of the window
+//! `entry.rt`, as definitions `specs/Followed`, `specs/DiagramOf`; what each row shows, as definitions
+//! `specs/KnownAtRow`, `specs/Fates`, `specs/Window`, as code `known.rt`, `fates.rt`, `window.rt`; lanes `lanes.rt`;
+//! a text as a list of parts `parts.rt`; how marks look `looks.rt`, `style.rt`, where they stand `shapes.rt`; the
+//! marks of rows `marks.rt`, `figures.rt`, the words beside them `words.rt`; layers `layers.rt`; the legend
+//! `legend.rt`; the text of a row `record.rt`; the row that breaks a rule `breach.rt`; what certificates tell
+//! `evidence.rt`, which messages are in chains `links.rt`; texts of others `escaping.rt`.
 #![tactic(auto)]
 
 mod breach;

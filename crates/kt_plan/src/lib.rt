@@ -1,4 +1,6 @@
 //! Plans: what the processes of a run are called, hold and are to do; and the plain types of a run's steps.
+//!
+//! **What to change where:** limits `plan.rt`; names `names.rt`; commands `commands.rt`; steps `steps.rt`.
 #![tactic(auto)]
 
 mod commands;

@@ -4,6 +4,10 @@
 //! each process has done, and the open phase; what its instances have put into channels is told beside it. Which steps may be
 //! made, what each makes, and which step is the default are said of that alone; the laws say what is so of everything that a
 //! run reaches. The machine's state behind a run, of which many of them are proved first, is scaffolding in `proofs/`.
+//!
+//! **What to change where:** commands and phases `specs/Plans`; how far a run has come `specs/Progress`; steps
+//! `specs/Steps`, looks `specs/Looks`, the default `specs/Defaults`, runs `specs/Runs`; what is promised of a log
+//! `specs/Headline`; that it follows its plan `specs/Follows`; what its certificates need `specs/DecidedWell`.
 #![tactic(auto)]
 
 mod certificates;

@@ -1,5 +1,16 @@
 //! The program but for its handles: the command line, runs played, stored runs judged, what is printed, the exit
 //! statuses.
+//!
+//! **What to change where:** the command line `ask.rt`, `line.rt`, `words.rt`; names of files that clash `names.rt`,
+//! files that are the same `files.rt`, outputs `outputs.rt`; closed streams `streams.rt`; a scenario run from its
+//! files `running.rt`, over new objects `runs.rt` (`specs/Made`), over given ones `played.rt`; its objects
+//! `casts.rt`, its texts `inputs.rt`, that it lost no message `laws.rt`; a stored run `checked.rt`, what is told of
+//! its answer `explained.rt`; a stored log certified `certified.rt`, from its file `certifying.rt`, or drawn
+//! `drawn.rt`, from its file `drawing.rt`; faults `fault.rt`; statuses `ending.rt`; what is told below a fault's line
+//! `hints.rt`, of which file and line `subject.rt`, that line, record or step `places.rt`, what stands in the way of
+//! a step `hindered.rt`, what was expected of a record `expected.rt`, of a line `reason.rt`, what breaks a rule
+//! `breaches.rt`, which file can't be read or made `tried.rt`, all that is written `targets.rt`; the whole
+//! `program.rt`.
 #![tactic(auto)]
 
 pub mod ask;

@@ -1,4 +1,7 @@
 //! The report of a run: what became of its instances, its commands, its objects and its messages.
+//!
+//! **What to change where:** the whole `writing.rt`; row by row `replay.rt`, `closings.rt`; lines `instances.rt`,
+//! `refusals.rt`, `objects.rt`, `losses.rt`; the text of a legal log `specs/Exact`.
 #![tactic(auto)]
 
 mod closings;

@@ -1,4 +1,7 @@
 //! Rollbacks: what one process does in an instance of rollback.
+//!
+//! **What to change where:** `handlers.rt`; the rules `specs/Rules`; labels noted in a rollback `notes.rt`,
+//! `side.rt`.
 #![tactic(auto)]
 
 mod handlers;

@@ -1,5 +1,10 @@
 //! A serial run of a plan over the objects of its processes: given steps, then default ones, or steps that are drawn, until
 //! all is at rest.
+//!
+//! **What to change where:** the two calls `runs.rt`; step by step `run_state.rt`; steps in an order, which are
+//! listed `recorded.rt`, `run_state/in_order.rt`, what is drawn `orders.rt`; what processes were told `journals.rt`;
+//! `faults.rt`; laws of runs and of a world's steps `laws.rt`; which runs these are `specs/Runs`, in which order
+//! `specs/Orders`, what objects hold `specs/Objects`.
 #![tactic(auto)]
 
 mod faults;

@@ -1,4 +1,7 @@
 //! The two texts that go into a run, scenarios and steps; steps are written too.
+//!
+//! **What to change where:** `words.rt`; a scenario `scenario.rt`, `draft.rt`; `steps.rt`; `writing.rt`; `fault.rt`;
+//! `laws.rt`.
 #![tactic(auto)]
 
 mod draft;

@@ -4,6 +4,9 @@
 //! them; code has labels instead, which each sender counts by itself, and tables of labels. What is seen of a state is what
 //! code keeps of it: labels in parcels, the calls that were made on each process's tables, and a part in an instance with
 //! the count of replies that it awaits. It makes transitions of its own, which are those of the machine.
+//!
+//! **What to change where:** what is seen `specs/Seen`, by labels `specs/Labelling`; transitions `specs/Transition`,
+//! made of `specs/SeenMessages`, `specs/SeenJoining`, `specs/SeenReplies`, `specs/SeenClosing`.
 #![tactic(auto)]
 
 mod laws;

@@ -1,4 +1,6 @@
 //! The log of a run: its rows.
+//!
+//! **What to change where:** rows `event.rt`; the list `log.rt`.
 #![tactic(auto)]
 
 mod event;

@@ -1,4 +1,6 @@
 //! Label tables: what one process keeps of the messages that it sent and received.
+//!
+//! **What to change where:** calls `tables.rt`; one table `peers.rt`.
 #![tactic(auto)]
 
 mod peers;

@@ -1,4 +1,6 @@
 //! What the texts of logs and certificates share: fields, records that are read, records that are written.
+//!
+//! **What to change where:** `fields.rt`; the next record `records.rt`; writing, and a number gathered, `pieces.rt`.
 #![tactic(auto)]
 
 mod fault;
