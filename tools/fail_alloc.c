@@ -1,6 +1,6 @@
 /* Laid under a program by LD_PRELOAD, it refuses the allocation of the number in FAIL_ALLOC, or the start of the thread of
    the number in FAIL_THREAD, both counted from 1, and says on standard error at the end, in a line of its own, how many
-   allocations there were, and in another one how many starts of threads, if there were any. Used by tools/refused-memory,
+   allocations there were, and in another one how many starts of threads, if there were any. Used by
    tools/refused-allocations and tools/refused-in-threads. */
 #define _GNU_SOURCE
 #include <dlfcn.h>
