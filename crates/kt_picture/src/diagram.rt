@@ -109,13 +109,6 @@ impl Diagram {
         }
     }
 
-    /// How many rows the window has so far.
-    pub fn columns(&self) -> u32
-        ensures { result ≡ self.now.known.column }
-    {
-        self.known.column
-    }
-
     /// The window, with what became of its rows.
     pub fn sheet(&self, alloc: Global, walk: &Walk) -> Result<Sheet, Memory>
         requires few { walk.now.rows ≤ 2 ^ 24 }

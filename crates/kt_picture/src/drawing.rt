@@ -1,9 +1,7 @@
 //! Pictures.
 
-ghost use Rattle.std.specs.Prelude.{◌≡◌, ◌≤◌, ◌^◌, ◌+◌, [], IfOk, OnOk, OnErr, length, take, drop};
-ghost use Rattle.std.specs.Io.KnownBytes.{Appends};
+ghost use Rattle.std.specs.Prelude.{◌≡◌, ◌≤◌, ◌^◌, ◌+◌, [], IfOk, OnOk, length, take, drop};
 ghost use Rattle.kt_cuts.specs.Legal.{IsLegal};
-ghost use Rattle.kt_text.specs.Writing.{WritesFront};
 ghost use Rattle.kt_picture.specs.DiagramOf.{DiagramOf, SheetOf};
 ghost use Rattle.kt_picture.specs.Picture.{picture_of};
 
@@ -13,14 +11,10 @@ use crate::evidence::Evidence;
 use kt_base::Memory;
 use kt_plan::Names;
 use kt_spacetime::SpaceTime;
-use kt_text::WriteFault;
-use kt_text::pieces::write_rest;
 use kt_walk::Walk;
 use std::alloc::Global;
-use std::io::Write;
 
-/// Writes the space-time diagram of a legal log after its first `before` rows, as one SVG document, with a line of text
-/// below. The row after it that breaks a rule, where there is one, is drawn as what it says in a column of its own, in the
+/// The space-time diagram of a legal log after its first `before` rows, as one SVG document, with a line of text below. The row after it that breaks a rule, where there is one, is drawn as what it says in a column of its own, in the
 /// colour of a warning, and lanes end there.
 ///
 /// The processes that the log names have a lane each, from above by rising number, with their names or else their
@@ -34,32 +28,6 @@ use std::io::Write;
 ///
 /// A message that certificates have in a chain is drawn in the colour of the instance, and the row in which a member joins
 /// tells in its tooltip which messages bound it; the orphan that is named stands out.
-///
-/// The whole text is gathered before any of it is written. After a fault, a front part of it is written.
-pub fn draw<W: Write>(
-    alloc: Global,
-    log: &SpaceTime,
-    before: usize,
-    breach: Option<Breach>,
-    evidence: &Evidence<'_>,
-    names: &Names,
-    caption: &[u8],
-    writer: &mut W,
-) -> Result<(), WriteFault>
-    requires legal { IsLegal log.now.rows }
-    requires before { before ≤ length log.now.rows }
-    ensures exact { OnOk result (Appends (W.contents writer.old) (W.contents writer.new)
-        (picture_of names.now log.now.rows before breach
-        evidence.now.certificates.now evidence.now.orphan caption.now)) }
-    ensures front { OnErr result (WritesFront (W.contents writer.old) (W.contents writer.new)
-        (picture_of names.now log.now.rows before breach
-        evidence.now.certificates.now evidence.now.orphan caption.now)) }
-{
-    let mut text = picture(alloc, log, before, breach, evidence, names, caption)?;
-    write_rest(&mut text, writer)
-}
-
-/// The text that `draw` writes.
 pub fn picture(
     alloc: Global,
     log: &SpaceTime,

@@ -37,7 +37,7 @@ mod words;
 
 pub use breach::{Breach, caption};
 pub use diagram::{Diagram, Sheet};
-pub use drawing::{draw, picture};
+pub use drawing::picture;
 pub use escaping::escaped_has_no_mark;
 pub use evidence::Evidence;
 pub use laws::{
