@@ -21,4 +21,4 @@ pub use laws::{
     certificates_of_logs, linking_messages_of_walks,
 };
 pub use runs::certificates_of_run;
-pub use streaming::certify_stream;
+pub use streaming::{certify_rows, certify_stream};

@@ -1,6 +1,5 @@
 -- What is known while certificates are read.
 use Rattle.std.specs.Prelude.{◌≡◌, ◌<◌, ◌≤◌, ◌⊎◌, ℕ, List, [], ◌∷◌, ◌++◌, Option, Some, None, All, length}
-use Rattle.csv.specs.Reading.{default_config, strip_bom, records}
 use Rattle.csv.specs.declared.reader.Reader.{Reader}
 use Rattle.kt_text.specs.Records.{left_in, ReadsOn}
 use Rattle.kt_chain.specs.declared.certificate.Certificate.{Certificate}
@@ -23,16 +22,16 @@ pub record CertificateTaken (old new : List Certificate) (fields : List (List �
   pub spelled : records_of new ≡ records_of old ++ fields ∷ []
   pub in_range : All IsCertificateWithin old → All IsCertificateWithin new
 
--- the bytes, where they are known, begin with the records of these certificates, and what is left is known too
-abbrev pub BeginsWithCertificates : Option (List ℕ) → Option (List (List (List ℕ))) → List Certificate → Type 0
+-- a text, where it is known, begins with the records of these certificates, and what is left is known too
+abbrev pub BeginsWithCertificates : Option (List (List (List ℕ))) → Option (List (List (List ℕ))) → List Certificate → Type 0
 BeginsWithCertificates None left certificates = Unit {0}
-BeginsWithCertificates (Some bytes) None certificates = ⊥
-BeginsWithCertificates (Some bytes) (Some left) certificates = IsAfterCertificates certificates left (records default_config (strip_bom bytes))
+BeginsWithCertificates (Some text) None certificates = ⊥
+BeginsWithCertificates (Some text) (Some left) certificates = IsAfterCertificates certificates left text
 
 -- what is known while certificates are gathered
-pub record GathersCertificates {R : Type 0} (remaining : R → Option (List ℕ)) (source : R) (reader : Reader R) (count : ℕ) (certificates : List Certificate) : Type 0 where
+pub record GathersCertificates {R : Type 0} (remaining : R → Option (List ℕ)) (text : Option (List (List (List ℕ)))) (reader : Reader R) (count : ℕ) (certificates : List Certificate) : Type 0 where
   pub reading : ReadsOn reader
-  pub begins : BeginsWithCertificates (remaining source) (left_in remaining reader) certificates
+  pub begins : BeginsWithCertificates text (left_in remaining reader) certificates
   pub in_range : All IsCertificateWithin certificates
   pub counted : count ≡ record_count certificates
   pub few : count ≤ max_records

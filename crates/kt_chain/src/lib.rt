@@ -14,5 +14,5 @@ mod writing;
 pub use certificate::{Certificate, Chain, Members};
 pub use fault::CertTextFault;
 pub use laws::{faults_are_real, one_spelling};
-pub use reading::read_certs;
+pub use reading::{read_certs, read_certs_in};
 pub use writing::write_certs;

@@ -44,5 +44,5 @@ mod verdict;
 
 pub use checking::check;
 pub use laws::one_answer;
-pub use streaming::check_stream;
+pub use streaming::{check_rows, check_stream};
 pub use verdict::{Verdict, Why};

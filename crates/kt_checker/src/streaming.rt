@@ -2,7 +2,7 @@
 
 ghost use Rattle.std.specs.Prelude.{◌≡◌, ◌↔◌, [], ℕ, List, Option, IfOk, IfErr, IfSome};
 ghost use Rattle.kt_spacetime.specs.declared.event.Event.{Event};
-ghost use Rattle.kt_log_text.specs.Reading.{rows_unread};
+ghost use Rattle.kt_log_text.specs.Reading.{IsUnread, rows_unread};
 ghost use Rattle.kt_log_text.specs.Texts.{IsLogText, IsFirstLogFault};
 ghost use Rattle.kt_checker.specs.declared.verdict.Verdict.TheVariants.{Yes};
 ghost use Rattle.kt_checker.specs.Judged.{JudgeOf};
@@ -30,21 +30,24 @@ pub fn check_stream<R: Read + Drop>(
     // So, where the reader tells its bytes, a yes is answered exactly where all of the rows that they say passes.
     ensures yes { IfOk result (λ verdict. IfSome (rows_unread (R.remaining log_reader)).left (λ text. (rows : List Event) → IsLogText text rows → (verdict ≡ Yes) ↔ IsPassed rows certificates.now)) }
 {
-    judge_stream(alloc, log_reader, certificates)
+    let mut rows = RowReader::new(alloc, log_reader)?;
+    check_rows(alloc, &mut rows, certificates)
 }
 
-// The answer to the rows that the reader gives, or its fault.
-fn judge_stream<R: Read + Drop>(
+/// Judges the rows that a reader gives, of which it gave none, and certificates, as `check_stream` does.
+///
+/// The record at which a fault was met stays with the reader.
+pub fn check_rows<R: Read + Drop>(
     alloc: Global,
-    log_reader: R,
+    rows: &mut RowReader<R>,
     certificates: &[Certificate],
 ) -> Result<Verdict, LogFault>
-    ensures answer { IfOk result (IsAnswerOf (R.remaining log_reader) certificates.now) }
-    ensures fault { IfErr result (λ e. IfSome (rows_unread (R.remaining log_reader)).left (λ text. IsFirstLogFault text e)) }
+    requires unread { IsUnread rows.old }
+    ensures answer { (source : Option (List ℕ)) → rows.old ≡ rows_unread source → IfOk result (IsAnswerOf source certificates.now) }
+    ensures fault { (source : Option (List ℕ)) → rows.old ≡ rows_unread source → IfErr result (λ e. IfSome (rows_unread source).left (λ text. IsFirstLogFault text e)) }
 {
     let mut judge = Judge::new(alloc, certificates)?;
-    let mut rows = RowReader::new(alloc, log_reader)?;
-    judge_unread(alloc, &mut judge, &mut rows, certificates)
+    judge_unread(alloc, &mut judge, rows, certificates)
 }
 
 // The answer to the rows that a reader gives, of which neither it nor the judge has seen any, or its fault.
@@ -54,7 +57,7 @@ fn judge_unread<R: Read + Drop>(
     rows: &mut RowReader<R>,
     certificates: &[Certificate],
 ) -> Result<Verdict, LogFault>
-    requires unread { (source : Option (List ℕ)) × (rows.old ≡ rows_unread source) }
+    requires unread { IsUnread rows.old }
     requires none_seen { JudgeOf judge.old certificates.now [] }
     ensures answer { (source : Option (List ℕ)) → rows.old ≡ rows_unread source → IfOk result (IsAnswerOf source certificates.now) }
     ensures fault { (source : Option (List ℕ)) → rows.old ≡ rows_unread source → IfErr result (λ e. IfSome (rows_unread source).left (λ text. IsFirstLogFault text e)) }

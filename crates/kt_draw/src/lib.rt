@@ -16,4 +16,4 @@ mod streaming;
 pub use drawing::draw_certified;
 pub use fault::{DrawFault, PictureFault};
 pub use span::Span;
-pub use streaming::draw_stream;
+pub use streaming::{draw_rows, draw_stream};

@@ -1,7 +1,7 @@
 //! A stored log drawn row by row.
 
 ghost use Rattle.std.specs.Prelude.{◌≡◌, [], ℕ, List, Option, IfOk, IfErr};
-ghost use Rattle.kt_log_text.specs.Reading.{rows_unread};
+ghost use Rattle.kt_log_text.specs.Reading.{IsUnread, rows_unread};
 ghost use Rattle.kt_draw.specs.Drawn.{IsNoPictureOf, IsPictureOf};
 ghost use Rattle.kt_draw.specs.Followed.{ReadingOf};
 
@@ -30,9 +30,26 @@ pub fn draw_stream<L: Read + Drop>(
     ensures picture { IfOk result (λ text. IsPictureOf names.now span (L.remaining reader) text.items) }
     ensures fault { IfErr result (IsNoPictureOf span (L.remaining reader)) }
 {
-    let mut reading = Reading::new(alloc, span)?;
     let mut rows = RowReader::new(alloc, reader)?;
-    draw_unread(alloc, &mut reading, &mut rows, names, span)
+    draw_rows(alloc, &mut rows, names, span)
+}
+
+/// The picture of rows of the log that a reader of its rows tells, of which it gave none, as `draw_stream` makes it.
+///
+/// The record at which a fault of the text was met stays with the reader.
+pub fn draw_rows<L: Read + Drop>(
+    alloc: Global,
+    rows: &mut RowReader<L>,
+    names: &Names,
+    span: Span,
+) -> Result<Vec<u8>, DrawFault>
+    requires unread { IsUnread rows.old }
+    ensures picture { (source : Option (List ℕ)) → rows.old ≡ rows_unread source
+        → IfOk result (λ text. IsPictureOf names.now span source text.items) }
+    ensures fault { (source : Option (List ℕ)) → rows.old ≡ rows_unread source → IfErr result (IsNoPictureOf span source) }
+{
+    let mut reading = Reading::new(alloc, span)?;
+    draw_unread(alloc, &mut reading, rows, names, span)
 }
 
 // The picture of the rows that a reader gives, of which neither it nor what is drawn has seen any, or its fault.
@@ -43,7 +60,7 @@ fn draw_unread<L: Read + Drop>(
     names: &Names,
     span: Span,
 ) -> Result<Vec<u8>, DrawFault>
-    requires unread { (source : Option (List ℕ)) × (rows.old ≡ rows_unread source) }
+    requires unread { IsUnread rows.old }
     requires none_read { ReadingOf reading.old span [] }
     ensures picture { (source : Option (List ℕ)) → rows.old ≡ rows_unread source
         → IfOk result (λ text. IsPictureOf names.now span source text.items) }

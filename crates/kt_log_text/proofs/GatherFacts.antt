@@ -86,7 +86,7 @@ no_memory (Some text) None known rows b = absurd b
 no_memory (Some text) (Some left) known rows b = record { format = known; rows = rows; left = left; after_rows = b; wrong = tt }
 
 -- from the records to the bytes
-of_bytes : (source : Option (List ℕ)) (P : List (List (List ℕ)) → Type 0) → IfSome (rows_unread source).left P → IfSome source (λ bytes. P (records default_config (strip_bom bytes)))
+pub of_bytes : (source : Option (List ℕ)) (P : List (List (List ℕ)) → Type 0) → IfSome (rows_unread source).left P → IfSome source (λ bytes. P (records default_config (strip_bom bytes)))
 of_bytes None P h = tt
 of_bytes (Some bytes) P h = h
 
@@ -105,8 +105,9 @@ gathered_to_fault source old new rows fault g f =
 pub gathered_fault : (source : Option (List ℕ)) (old new : RowsRead) (rows : List Event) (fault : LogFault) → GathersRows source old rows → MeetsFault old new fault → IfSome source (λ bytes. IsFirstLogFault (records default_config (strip_bom bytes)) fault)
 gathered_fault source old new rows fault g f = of_bytes source (λ t. IsFirstLogFault t fault) (gathered_to_fault source old new rows fault g f)
 
-pub gathered_memory : (source : Option (List ℕ)) (old : RowsRead) (rows : List Event) → GathersRows source old rows → IfSome source (λ bytes. IsFirstLogFault (records default_config (strip_bom bytes)) Memory)
-gathered_memory source old rows g = of_bytes source (λ t. IsFirstLogFault t Memory) (no_memory (rows_unread source).left old.left old.format rows g.begins)
+-- so is the want of memory
+pub gathered_memory : (source : Option (List ℕ)) (old : RowsRead) (rows : List Event) → GathersRows source old rows → IfSome (rows_unread source).left (λ text. IsFirstLogFault text Memory)
+gathered_memory source old rows g = no_memory (rows_unread source).left old.left old.format rows g.begins
 
 -- before the first row
 pub gathers_none : (source : Option (List ℕ)) → GathersRows source (rows_unread source) []

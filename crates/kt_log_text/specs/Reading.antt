@@ -27,6 +27,10 @@ rows_unread bytes = record {
   ended = false;
 }
 
+-- no record was read yet of some bytes
+abbrev pub IsUnread : RowsRead → Type 0
+IsUnread rows = (source : Option (List ℕ)) × (rows ≡ rows_unread source)
+
 -- the next record says this row, where the records are known
 abbrev pub TakesRow : Option Format → Format → Option (List (List (List ℕ))) → Option (List (List (List ℕ))) → Event → Type 0
 TakesRow known format None rest row = Unit {0}

@@ -12,5 +12,5 @@ mod writing;
 
 pub use fault::LogFault;
 pub use laws::{faults_are_real, one_spelling};
-pub use reading::{RowReader, read_csv};
+pub use reading::{Record, RowReader, read_csv, read_rows};
 pub use writing::write_csv;

@@ -6,13 +6,13 @@ ghost use Rattle.csv.specs.Records.{fields_of};
 ghost use Rattle.kt_spacetime.specs.Events.{IsRowInRange};
 ghost use Rattle.kt_log_text.specs.Spelling.{spelling, max_rows, IsInFormat};
 ghost use Rattle.kt_log_text.specs.Texts.{header, IsFormatRecord, IsUnmarked, IsOtherVersion, IsRowFault, IsFaultFrom, IsEndedFrom, IsLogText, IsFirstLogFault};
-ghost use Rattle.kt_log_text.specs.Reading.{Steps, rows_unread};
+ghost use Rattle.kt_log_text.specs.Reading.{IsUnread, Steps, rows_unread};
 ghost use Rattle.kt_text.specs.Records.{left_in, ReadsOn};
 ghost use Rattle.kt_log_text.specs.Progress.{TakesFields, IsFormatOf, IsHeadFault, IsRowCount, ReadsRow};
 
 use crate::fault::LogFault;
 use crate::rows::{Format, event_of};
-use csv::{ByteRecord, Reader};
+use csv::{ByteRecord, Position, Reader};
 use kt_base::{Memory, RowNo};
 use kt_spacetime::{Event, SpaceTime};
 use kt_text::records::{next_record, read_records};
@@ -170,6 +170,15 @@ fn read_row<R: Read>(
     Ok(Some(event))
 }
 
+/// A record of a text, as it was read.
+#[derive(Drop)]
+pub struct Record {
+    /// Its fields, and where it begins.
+    pub fields: ByteRecord,
+    /// Where it ends.
+    pub end: Position,
+}
+
 /// Reads a log's text row by row, in one pass, with one record's memory.
 ///
 /// After a fault every later call answers the same fault; after the end every later call answers that there is no
@@ -243,20 +252,49 @@ impl<R: Read + Drop> RowReader<R> {
             }
         }
     }
+
+    /// The record that was read last; `None` where there is no memory for it.
+    pub fn record(&self) -> Option<Record> {
+        match self.current.clone() {
+            Ok(fields) => Some(Record {
+                fields,
+                end: self.records.position(),
+            }),
+            Err(_) => None,
+        }
+    }
+
+    /// The reader underneath.
+    pub fn source(&self) -> &R {
+        self.records.get_ref()
+    }
 }
 
-/// The log of a text, in format 1 or 2.
+/// The log of the rows that a reader gives, before its first row.
 ///
-/// Answers the first fault of the text: rows in order, and in one row its number of fields, then field by field.
-pub fn read_csv<R: Read + Drop>(alloc: Global, reader: R) -> Result<SpaceTime, LogFault>
-    ensures found { IfOk result (λ log. IfSome (R.remaining reader) (λ bytes. IsLogText (records default_config (strip_bom bytes)) log.rows)) }
-    ensures fault { IfErr result (λ e. IfSome (R.remaining reader) (λ bytes. IsFirstLogFault (records default_config (strip_bom bytes)) e)) }
+/// Answers the first fault of the text: rows in order, and in one row its number of fields, then field by field. The record
+/// at which it was met stays with the reader.
+pub fn read_rows<R: Read + Drop>(
+    alloc: Global,
+    rows: &mut RowReader<R>,
+) -> Result<SpaceTime, LogFault>
+    requires unread { IsUnread rows.old }
+    ensures found { IfOk result (λ log. IfSome rows.old.left (λ text. IsLogText text log.rows)) }
+    ensures fault { IfErr result (λ e. IfSome rows.old.left (λ text. IsFirstLogFault text e)) }
 {
-    let mut rows = RowReader::new(alloc, reader)?;
     let mut log = SpaceTime::new(alloc);
     while let Some(event) = rows.next()? {
         log.reserve(1)?;
         log.push_reserved(event);
     }
     Ok(log)
+}
+
+/// The log of a text, in format 1 or 2, as `read_rows` gives it of a reader of its rows.
+pub fn read_csv<R: Read + Drop>(alloc: Global, reader: R) -> Result<SpaceTime, LogFault>
+    ensures found { IfOk result (λ log. IfSome (R.remaining reader) (λ bytes. IsLogText (records default_config (strip_bom bytes)) log.rows)) }
+    ensures fault { IfErr result (λ e. IfSome (R.remaining reader) (λ bytes. IsFirstLogFault (records default_config (strip_bom bytes)) e)) }
+{
+    let mut rows = RowReader::new(alloc, reader)?;
+    read_rows(alloc, &mut rows)
 }

@@ -4,7 +4,7 @@ use Rattle.kt_certify.proofs.Reading.{read_more, certified_at, unfit_at, short_a
 use Rattle.kt_certify.proofs.streaming.certify_unread.Goals as goal
 
 pub loop-row-preserved : goal.loop-row-preserved
-loop-row-preserved g c = λ source e. read_more c.loop-row.rows c.next.new.self c.loop-row.pass c.feed.new.self c.in-Some.row (c.loop-row.invariant source e) (rw c.in-Some.is at c.in_ok-row.ensures.steps) c.in_ok-feed.ensures
+loop-row-preserved g c = λ source e. read_more c.loop-row.rows c.next.new.self c.loop-row.pass c.feed_told.new.pass c.in-Some.row (c.loop-row.invariant source e) (rw c.in-Some.is at c.in_ok-row.ensures.steps) c.in_ok-feed_told.ensures
 
 pub returns-in-Some-unfit-clause-fault : goal.returns-in-Some-unfit-clause-fault
 returns-in-Some-unfit-clause-fault g c = λ source e.

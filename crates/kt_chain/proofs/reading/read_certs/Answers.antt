@@ -1,44 +1,12 @@
-use Rattle.std.proofs.Common.{◌≡◌, ◌<◌, ◌+◌, arith}
-use Rattle.csv.specs.Records.{fields_of}
-use Rattle.kt_text.specs.Records.{left_in}
-use Rattle.kt_chain.specs.Texts.{record_count, max_records}
-use Rattle.kt_chain.proofs.GatherFacts.{count_more, begins_more, record_fault, too_long, short}
+use Rattle.std.proofs.lemmas.Result.{IfOk-weaker, IfErr-weaker}
+use Rattle.kt_chain.specs.Texts.{IsCertText, IsFirstCertificateFault}
+use Rattle.kt_chain.proofs.GatherFacts.{of_bytes}
 use Rattle.kt_chain.proofs.reading.read_certs.Goals as goal
 
-pub returns-in-Err-clause-fault : goal.returns-in-Err-clause-fault
-returns-in-Err-clause-fault g c =
-    let remaining = g.R.Read.remaining in
-    let before = c.loop-certificates.certificates.items in
-    let few : record_count before < max_records = omega (arith, c.if-count-eq-MAX_RECORDS.false, c.loop-certificates.invariant.few, c.loop-certificates.invariant.counted) in
-    let read = rw c.deref_mut.ensures.value at (c.in_ok-next_record.ensures.found c.if-branch.true) in
-    rw c.at.ensures
-    (record_fault (remaining c.args.reader) (left_in remaining c.loop-certificates.records.value) (left_in remaining c.next_record.new.records) before (fields_of c.next_record.new.current)
-    (c.loop-certificates.count + 1) c.in-Err.fault c.loop-certificates.invariant.begins read.1 (omega (arith, c.loop-certificates.invariant.counted)) few c.in-Err.ensures.fault)
+pub returns-clause-found : goal.returns-clause-found
+returns-clause-found g c =
+    IfOk-weaker c.read_certs_in.result _ _ (λ list h. of_bytes (g.R.Read.remaining c.args.reader) (λ text. IsCertText text list.items) h) (rw c.in_ok-records.ensures.text at (rw c.deref_mut.ensures.value at c.read_certs_in.ensures.found))
 
-pub loop-certificates-preserved : goal.loop-certificates-preserved
-loop-certificates-preserved g c =
-    let remaining = g.R.Read.remaining in
-    let before = c.loop-certificates.certificates.items in
-    let few : record_count before < max_records = omega (arith, c.if-count-eq-MAX_RECORDS.false, c.loop-certificates.invariant.few, c.loop-certificates.invariant.counted) in
-    let read = rw c.deref_mut.ensures.value at (c.in_ok-next_record.ensures.found c.if-branch.true) in
-    let taken = c.in_default.ensures.taken in
-    record {
-      reading = read.0;
-      begins = begins_more (remaining c.args.reader) (left_in remaining c.loop-certificates.records.value) (left_in remaining c.next_record.new.records) before c.take_record.new.certificates.items
-          (fields_of c.next_record.new.current) c.loop-certificates.invariant.begins read.1 taken few;
-      in_range = taken.in_range c.loop-certificates.invariant.in_range;
-      counted = omega (arith, c.loop-certificates.invariant.counted, count_more before c.take_record.new.certificates.items (fields_of c.next_record.new.current) taken);
-      few = omega (arith, few, c.loop-certificates.invariant.counted);
-    }
-
-pub returns-clause-short : goal.returns-clause-short
-returns-clause-short g c = short c.loop-certificates.certificates.items c.loop-certificates.invariant.in_range
-
-pub returns-then-count-eq-MAX_RECORDS-clause-fault : goal.returns-then-count-eq-MAX_RECORDS-clause-fault
-returns-then-count-eq-MAX_RECORDS-clause-fault g c =
-    let remaining = g.R.Read.remaining in
-    let before = c.loop-certificates.certificates.items in
-    let full : record_count before ≡ max_records = omega (arith, c.if-count-eq-MAX_RECORDS.true, c.loop-certificates.invariant.counted) in
-    let read = rw c.deref_mut.ensures.value at (c.in_ok-next_record.ensures.found c.if-branch.true) in
-    too_long (remaining c.args.reader) (left_in remaining c.loop-certificates.records.value) (left_in remaining c.next_record.new.records) before (fields_of c.next_record.new.current)
-    c.loop-certificates.invariant.begins read.1 full
+pub returns-clause-fault : goal.returns-clause-fault
+returns-clause-fault g c =
+    IfErr-weaker c.read_certs_in.result _ _ (λ e h. of_bytes (g.R.Read.remaining c.args.reader) (λ text. IsFirstCertificateFault text e) h) (rw c.in_ok-records.ensures.text at (rw c.deref_mut.ensures.value at c.read_certs_in.ensures.fault))
