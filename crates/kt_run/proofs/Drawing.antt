@@ -1,6 +1,6 @@
 -- Numbers that a generator draws.
 use Rattle.std.specs.Prelude.{◌%◌, ◌-◌, nat_lt, if◌then◌else◌}
-use Rattle.std.proofs.Common.{◌≡◌, ◌<◌, ◌≤◌, ℕ, zero, suc, Bool, true, false, List, refl, sym, ap, subst, arith}
+use Rattle.std.proofs.Common.{◌≡◌, ◌<◌, ◌≤◌, ℕ, zero, suc, Bool, true, false, refl, sym, ap, subst, arith}
 use Rattle.std.proofs.lemmas.Bool.Decides.{nat_tests}
 use Rattle.rand_xoshiro.specs.Xoshiro256.{plus_plus}
 use Rattle.kt_run.specs.Orders.{Generator, even_part, drawn}

@@ -6,6 +6,7 @@ pub mod Noting
 pub mod Numbering
 pub mod Running
 pub mod Ordering
+pub mod Resting
 pub mod Drawing
 pub mod Choosing
 pub mod OneRun

@@ -19,9 +19,6 @@ pub play_append : (plan : Planned) (xs ys : List Move) (u v w : Progress) → af
 play_append plan [] ys u v w e f = subst (λ (z : Progress). after_moves plan z ys ≡ Some w) (sym (ap (λ (o : Option Progress). unwrap_or o u) e)) f
 play_append plan (x ∷ xs) ys u v w e f = let m = first_move plan u v x xs e in let on = m.0 in rw on (play_append plan xs ys (progress_after plan u x.step x.give) v w m.1 f)
 
--- a run by given moves, with no default step yet; and all moves of one that goes on
+-- a run by given moves, with no default step yet
 pub goes_first : (plan : Planned) (given : List Move) (w : Progress) → after_moves plan (progress_at_start plan 0) given ≡ Some w → GoesOn plan 0 given [] w
 goes_first plan given w e = record { begun = w; begins = e; default = tt; leads = refl }
-
-pub goes_run : (plan : Planned) (given more : List Move) (w : Progress) → GoesOn plan 0 given more w → after_moves plan (progress_at_start plan 0) (given ++ more) ≡ Some w
-goes_run plan given more w g = play_append plan given more (progress_at_start plan 0) g.begun w g.begins g.leads

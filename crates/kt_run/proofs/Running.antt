@@ -1,24 +1,22 @@
 -- A run goes on with the world.
-use Rattle.std.specs.Prelude.{Option, option_map, unwrap_or, slice_get, slice_index_or, not, if◌then◌else◌}
-use Rattle.std.proofs.Common.{◌≡◌, ℕ, zero, suc, ℤ, Bool, true, false, Some, None, List, [], ◌∷◌, ◌++◌, append_assoc, append-nil, ◌+◌, ◌<◌, ◌≤◌, arith, take, length, length-append, map, get_or, refl, sym, ap, subst, inl, inr, ◌∙◌}
+use Rattle.std.specs.Prelude.{Option, unwrap_or, slice_get, not, if◌then◌else◌}
+use Rattle.std.proofs.Common.{◌≡◌, ℕ, zero, suc, ℤ, Bool, true, false, Some, None, List, [], ◌∷◌, ◌++◌, ◌+◌, ◌<◌, ◌≤◌, arith, take, length, length-append, get_or, refl, sym, ap, subst, ◌∙◌}
 use Rattle.std.proofs.lemmas.Option.{slice_get_read}
-use Rattle.std.proofs.lemmas.List.{map-append, take_more, length-map, length_push}
+use Rattle.std.proofs.lemmas.List.{map-append, take_more, length-map}
 use Rattle.kt_plan.specs.Limits.{Planned, IsPlan}
 use Rattle.kt_plan.specs.declared.steps.Step.{Step}
 use Rattle.kt_plan.specs.declared.steps.Give.{Give}
 use Rattle.kt_plan.specs.declared.steps.Told.{Told}
 use Rattle.kt_plan.specs.declared.steps.Act.{Act}
-use Rattle.kt_held.specs.Holdings.{Content, content, AreSaved}
+use Rattle.kt_held.specs.Holdings.{Content}
 use Rattle.kt_values.specs.Values.{Rules}
 use Rattle.kt_spacetime.specs.declared.event.Event.{Event}
-use Rattle.kt_plans.specs.Runs.{Move, after_moves, RunReaches}
+use Rattle.kt_plans.specs.Runs.{Move, after_moves}
 use Rattle.kt_plans.specs.Progress.{Progress, progress_at_start}
-use Rattle.kt_plans.specs.Follows.{FollowsPlan}
 use Rattle.kt_plans.specs.Steps.{enabled, progress_after, process_of_step}
-use Rattle.kt_plans.specs.Defaults.{default_step}
 use Rattle.kt_plans.specs.StepActs.{acts_of_step}
 use Rattle.kt_plans.specs.Told.{told_at}
-use Rattle.kt_plans.specs.Offers.{GivesOffer, GivesOffers, SendsWhatIsOffered}
+use Rattle.kt_plans.specs.Offers.{GivesOffer, GivesOffers}
 use Rattle.kt_system.specs.ShownActs.{acts_shown}
 use Rattle.kt_system.specs.Systems.{LogGrows}
 use Rattle.kt_core.specs.Worlds.{World, step_refusal, is_full, numbered_row, can_make}
@@ -26,12 +24,12 @@ use Rattle.kt_core.specs.declared.faults.StepFault.TheVariants.{NotEnabled, LogF
 use Rattle.std.proofs.lemmas.Bool.{ltb-false}
 use Rattle.kt_core.specs.declared.faults.StepFault.{StepFault}
 use Rattle.kt_core.specs.Shown.{Mirrors}
-use Rattle.kt_run.specs.Objects.{Belongings, first_of, rules_of, rules_by, HoldDue}
+use Rattle.kt_run.specs.Objects.{rules_by, HoldDue}
 use Rattle.kt_run.specs.RunLaws.{RunLaws}
-use Rattle.kt_run.specs.Refused.{IsGivenNext, IsDefaultNext, IsGivenRefused, IsDefaultRefused, IsStopped}
-use Rattle.kt_run.specs.Runs.{ToldAndHeld, Tells, StepsTo, Starts, BeginsRun, Goes, Rests, IsPlayed, IsToldPlay}
-use Rattle.kt_run.specs.Telling.{IsToldAs, AreToldInRun, AreToldTheirRows, TellsItsRows, AreEmpty, IsNoted}
-use Rattle.kt_run.proofs.Moves.{first_move, play_append, goes_first, goes_run}
+use Rattle.kt_run.specs.Refused.{IsGivenNext}
+use Rattle.kt_run.specs.Runs.{ToldAndHeld, Tells, StepsTo, Starts, BeginsRun}
+use Rattle.kt_run.specs.Telling.{IsToldAs, AreToldTheirRows, TellsItsRows, AreEmpty, IsNoted}
+use Rattle.kt_run.proofs.Moves.{first_move, play_append, goes_first}
 use Rattle.kt_run.proofs.Numbering.{told_their_none, told_their_more}
 use Rattle.kt_run.proofs.Telling.{told_as, tells_its_rows, tells_nothing, tells_more}
 
@@ -180,170 +178,9 @@ begins_few laws plan cast steps w at e b =
     let made = sym (length-map b.moves (λ (m : Move). m.step)) ∙ ap (λ (l : List Step). length l) b.made in
     omega (arith, below, made)
 
--- a run goes on from where the given steps lead, by so many steps
-abbrev pub GoesSo : Planned → List (List Content) → List Step → ℕ → World → ToldAndHeld → Type 0
-GoesSo plan cast steps n w at = (g : Goes plan cast steps w at) × (n ≡ length g.more)
-
-pub goes_start : (plan : Planned) (cast : List (List Content)) (steps : List Step) (w : World) (at : ToldAndHeld) → BeginsRun plan cast steps w at → GoesSo plan cast steps 0 w at
-goes_start plan cast steps w at b = (
-  record {
-    given = b.moves;
-    more = [];
-    now = b.now;
-    begins = b.made;
-    goes_on = goes_first plan b.moves b.now b.leads;
-    shown = b.shown;
-    limit = b.limit;
-    few = b.few;
-    tells = subst (λ (moves : List Move). AreToldInRun plan moves at.told) (sym (append-nil b.moves)) b.tells;
-    rows = b.rows;
-    offers = subst (λ (moves : List Move). GivesOffers (rules_by cast) plan (progress_at_start plan 0) moves) (sym (append-nil b.moves)) b.offers;
-    due = b.due;
-  },
-  omega arith,
-)
-
-pub goes_more : RunLaws → (plan : Planned) (cast : List (List Content)) (steps : List Step) (n : ℕ) (x : Step) (old new : World) (before after : ToldAndHeld) → old.agenda.plan ≡ plan → (h : GoesSo plan cast steps n old before) → StepsTo old before x new after
-    → Some x ≡ default_step old.agenda.plan h.0.now → GoesSo plan cast steps (n + 1) new after
-goes_more laws plan cast steps n x old new before after e h s d =
-    let g = h.0 in
-    let l = led plan old new before after x g.now e s g.shown in
-    let k = keeps plan cast old new before after x g.now e s g.shown g.due in
-    let run = goes_run plan g.given g.more g.now g.goes_on in
-    let limits = subst (λ (z : Planned). IsPlan z) e g.shown.limits in
-    let m : Move = record { step = x; give = s.1 } in
-    let more = length_push g.more m in
-    let so = h.1 in (
-      record {
-        given = g.given;
-        more = g.more ++ m ∷ [];
-        now = progress_after plan g.now x s.1;
-        begins = g.begins;
-        goes_on = laws.next_default plan 0 g.given g.more g.now x s.1 limits g.goes_on (subst (λ (z : Planned). default_step z g.now ≡ Some x) e (sym d));
-        shown = l.1;
-        limit = s.3 ∙ g.limit;
-        few = s.4;
-        tells = subst (λ (moves : List Move). AreToldInRun plan moves after.told) (append_assoc g.given g.more (m ∷ []))
-            (tells_more laws plan (g.given ++ g.more) g.now m s.0 before.told after.told run l.2 s.2 g.tells);
-        rows = told_their_more s.0 g.now.now.log (progress_after plan g.now x s.1).now.log l.3 before.told after.told s.2 g.rows;
-        offers = subst (λ (moves : List Move). GivesOffers (rules_by cast) plan (progress_at_start plan 0) moves) (append_assoc g.given g.more (m ∷ []))
-            (gives_more (rules_by cast) plan (g.given ++ g.more) m (progress_at_start plan 0) g.now run g.offers k.0);
-        due = k.1;
-      },
-      omega (arith, more, so),
-    )
-
-begins_count : (moves : List Move) (steps : List Step) → map (λ (m : Move). m.step) moves ≡ steps → length moves ≡ length steps
-begins_count moves steps e = sym (length-map moves (λ (m : Move). m.step)) ∙ ap (λ (l : List Step). length l) e
-
--- so few that they are counted
-pub goes_few : RunLaws → (plan : Planned) (cast : List (List Content)) (steps : List Step) (n : ℕ) (w : World) (at : ToldAndHeld) → w.agenda.plan ≡ plan → GoesSo plan cast steps n w at
-    → length steps + n < 67108864
-goes_few laws plan cast steps n w at e h =
-    let g = h.0 in
-    let few = g.few in
-    let limit = g.limit in
-    let so = h.1 in
-    let i = subst (λ (z : Planned). IsPlan z) e g.shown.limits in
-    let names = i.names.few in
-    let commands = i.few in
-    let log = ap (λ (l : List Event). length l) g.shown.now.log in
-    let below = laws.limits plan 0 g.given g.more g.now i names (omega (arith, commands)) (omega (arith, few, limit, log)) g.goes_on in
-    let given = begins_count g.given steps g.begins in
-    omega (arith, below, so, given)
-
--- no run has so many steps
-pub too_many : RunLaws → (plan : Planned) (cast : List (List Content)) (steps : List Step) (n : ℕ) (w : World) (at : ToldAndHeld) → w.agenda.plan ≡ plan → GoesSo plan cast steps n w at → 4294967295 ≤ n → ⊥
-too_many laws plan cast steps n w at e h many = let below = goes_few laws plan cast steps n w at e h in omega (arith, below, many)
-
-pub rests_now : RunLaws → (plan : Planned) (cast : List (List Content)) (steps : List Step) (w : World) (at : ToldAndHeld) → w.agenda.plan ≡ plan → (g : Goes plan cast steps w at) → None ≡ default_step w.agenda.plan g.now → Rests plan cast steps w at
-rests_now laws plan cast steps w at e g d = record {
-  run = g;
-  rest = laws.no_default plan 0 g.given g.more g.now (subst (λ (z : Planned). IsPlan z) e g.shown.limits) g.goes_on (subst (λ (z : Planned). default_step z g.now ≡ None) e (sym d));
-}
-
-module _ (laws : RunLaws) (plan : Planned) (cast : List (List Content)) (steps : List Step) (w : World) (at : ToldAndHeld) (rows : List Event) (limits : IsPlan plan) (r : Rests plan cast steps w at) (log : rows ≡ w.system.rows.rows) where
-  rows_are : rows ≡ r.run.now.now.log
-  rows_are = log ∙ r.run.shown.now.log
-
-  leads : after_moves plan (progress_at_start plan 0) (r.run.given ++ r.run.more) ≡ Some r.run.now
-  leads = goes_run plan r.run.given r.run.more r.run.now r.run.goes_on
-
-  reached : RunReaches plan 0 r.run.now
-  reached = record { moves = r.run.given ++ r.run.more; leads = leads }
-
-  pub run_of : IsPlayed plan cast steps rows
-  run_of = record {
-    given = r.run.given;
-    more = r.run.more;
-    begins = r.run.begins;
-    run = record {
-      end = r.run.now;
-      leads = leads;
-      rest = r.rest;
-      log = rows_are;
-      offers = subst (SendsWhatIsOffered (rules_by cast) plan) (sym rows_are)
-          (laws.offers (rules_by cast) plan 0 (r.run.given ++ r.run.more) r.run.now limits leads r.run.offers);
-    };
-    begun = r.run.goes_on.begun;
-    leads = r.run.goes_on.begins;
-    default = r.run.goes_on.default;
-  }
-
-  pub follows_of : FollowsPlan plan rows
-  follows_of = subst (λ (l : List Event). FollowsPlan plan l) (sym rows_are) (laws.follows plan 0 r.run.now limits reached r.rest)
-
-  pub told_run_of : length at.told ≡ length plan.names → IsToldPlay plan cast steps rows at.told
-  unfolding run_of
-  told_run_of n = record { play = run_of; count = n; tells = r.run.tells }
-
-  pub their_rows : AreToldTheirRows rows at.told
-  their_rows = subst (λ (l : List Event). AreToldTheirRows l at.told) (sym rows_are) r.run.rows
-
-  pub due_of : HoldDue cast rows at.has
-  due_of = subst (λ (l : List Event). HoldDue cast l at.has) (sym rows_are) r.run.due
-
-  none_saved : (o : Option Content) (t : Option (List ℕ)) → o ≡ None → AreSaved o t → t ≡ None
-  none_saved None None e h = refl
-  none_saved None (Some saved) e h = absurd h
-  none_saved (Some c) t e h = absurd (cc (e))
-
-  -- at rest nothing tentative is left
-  pub settled_of : (p : ℕ) (b : Belongings) → slice_get at.has p ≡ Some b → b.depot.tentative ≡ None
-  settled_of p b f =
-      let c = first_of (slice_index_or cast p []) in
-      let h = r.run.due.each p b f in
-      none_saved _ b.depot.tentative (ap (option_map (content c.kind)) (laws.rested (rules_of c) plan 0 r.run.now p limits reached r.rest)) h.holds.tentative
-
 -- the next step of those given
 pub given_next : (plan : Planned) (cast : List (List Content)) (steps : List Step) (i : ℕ) (w : World) (at : ToldAndHeld) (x : Step) → BeginsRun plan cast (take i steps) w at → i < length steps → x ≡ get_or steps i x → IsGivenNext plan cast steps i w x
 given_next plan cast steps i w at x b l e = record { at = at; run = b; next = slice_get_read steps (length steps) i x refl l e }
-
--- it is refused
-pub given_refused : (plan : Planned) (cast : List (List Content)) (steps : List Step) (i done : ℕ) (w : World) (x : Step) (fault : StepFault) → IsGivenNext plan cast steps i w x → done ≡ i → step_refusal w x ≡ Some fault → IsGivenRefused plan cast steps done fault
-given_refused plan cast steps i done w x fault n count refused = subst (λ (k : ℕ). IsGivenRefused plan cast steps k fault) (sym count) (record { world = w; step = x; next = n; refused = refused })
-
--- it is one of this process
-pub given_stopped : (plan : Planned) (cast : List (List Content)) (steps : List Step) (i : ℕ) (w : World) (x : Step) (p : ℕ) → IsGivenNext plan cast steps i w x → process_of_step x ≡ p → step_refusal w x ≡ None → IsStopped plan cast steps p
-given_stopped plan cast steps i w x p n own made = record { done = i; world = w; step = x; next = inl n; own = own; made = made }
-
--- the next default step
-pub default_next : (plan : Planned) (cast : List (List Content)) (steps : List Step) (n done : ℕ) (w : World) (at : ToldAndHeld) (x : Step) → w.agenda.plan ≡ plan → (h : GoesSo plan cast steps n w at)
-    → length steps + n ≡ done → Some x ≡ default_step w.agenda.plan h.0.now → IsDefaultNext plan cast steps done w x
-default_next plan cast steps n done w at x e h count next = record {
-  at = at;
-  run = h.0;
-  count = (let given = begins_count h.0.given steps h.0.begins in let so = h.1 in omega (arith, given, so, count));
-  next = subst (λ (z : Planned). default_step z h.0.now ≡ Some x) e (sym next);
-}
-
--- it is refused
-pub default_refused : (plan : Planned) (cast : List (List Content)) (steps : List Step) (done : ℕ) (w : World) (x : Step) (fault : StepFault) → IsDefaultNext plan cast steps done w x → step_refusal w x ≡ Some fault → IsDefaultRefused plan cast steps done fault
-default_refused plan cast steps done w x fault n refused = record { world = w; step = x; next = n; refused = refused }
-
--- it is one of this process
-pub default_stopped : (plan : Planned) (cast : List (List Content)) (steps : List Step) (done : ℕ) (w : World) (x : Step) (p : ℕ) → IsDefaultNext plan cast steps done w x → process_of_step x ≡ p → step_refusal w x ≡ None → IsStopped plan cast steps p
-default_stopped plan cast steps done w x p n own made = record { done = done; world = w; step = x; next = inr n; own = own; made = made }
 
 pub take_next : (xs : List Step) (i : ℕ) (x : Step) → i < length xs → x ≡ get_or xs i x → take (i + 1) xs ≡ take i xs ++ x ∷ []
 take_next xs i x l e = take_more xs i x l ∙ ap (λ (y : Step). take i xs ++ y ∷ []) (sym e)

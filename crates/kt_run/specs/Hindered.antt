@@ -1,13 +1,15 @@
 -- Runs by given steps that end at one which is not enabled.
-use Rattle.std.specs.Prelude.{◌≡◌, ℕ, Some, List}
+use Rattle.std.specs.Prelude.{◌≡◌, ℕ, Option, Some, List}
 use Rattle.kt_held.specs.Holdings.{Content}
 use Rattle.kt_plan.specs.Limits.{Planned}
 use Rattle.kt_plan.specs.declared.steps.Step.{Step}
 use Rattle.kt_plans.specs.Hindrances.{hindrance}
 use Rattle.kt_plans.specs.declared.hindrances.Hindrance.{Hindrance}
 use Rattle.kt_core.specs.Worlds.{World}
+use Rattle.kt_core.specs.declared.faults.StepFault.TheVariants.{NotEnabled}
+use Rattle.kt_run.specs.declared.faults.RunFault.{RunFault}
+use Rattle.kt_run.specs.declared.faults.RunFault.TheVariants as run
 use Rattle.kt_run.specs.Refused.{IsGivenNext}
-use Rattle.kt_run.specs.Runs.{ToldAndHeld, BeginsRun}
 
 -- a run by the first so many of these steps leads to where just this stands in the way of the next one of them
 pub record IsHindered (plan : Planned) (cast : List (List Content)) (steps : List Step) (done : ℕ) (why : Hindrance) : Type 0 where
@@ -16,8 +18,11 @@ pub record IsHindered (plan : Planned) (cast : List (List Content)) (steps : Lis
   pub next : IsGivenNext plan cast steps done world step
   pub hindered : hindrance plan next.run.now step ≡ Some why
 
--- all of these steps are a run
-pub record AreMade (plan : Planned) (cast : List (List Content)) (steps : List Step) : Type 0 where
-  pub world : World
-  pub at : ToldAndHeld
-  pub run : BeginsRun plan cast steps world at
+-- where a run ends at a step that is not enabled, it is one of those given, and what stands in its way is told
+abbrev pub TellsHindrance : Planned → List (List Content) → List Step → RunFault → Option Hindrance → Type 0
+TellsHindrance plan cast steps fault told =
+    (done : ℕ) → fault ≡ run.Step done NotEnabled → (why : Hindrance) × (told ≡ Some why) × IsHindered plan cast steps done why
+
+-- nothing is told to stand in the way where a run ends otherwise
+abbrev pub TellsNoOther : RunFault → Option Hindrance → Type 0
+TellsNoOther fault told = (why : Hindrance) → told ≡ Some why → (done : ℕ) × (fault ≡ run.Step done NotEnabled)

@@ -1,5 +1,5 @@
 -- Runs whose steps are made in an order: default ones, or steps that a generator draws.
-use Rattle.std.specs.Prelude.{◌≡◌, ◌-◌, ◌%◌, ◌^◌, ◌++◌, ℕ, zero, suc, true, List, [], ◌∷◌, Option, Some, None, length, map, nat_lt, slice_get, if◌then◌else◌}
+use Rattle.std.specs.Prelude.{◌≡◌, ◌⊎◌, ◌-◌, ◌%◌, ◌^◌, ◌++◌, ℕ, zero, suc, true, List, [], ◌∷◌, Option, Some, None, length, map, nat_lt, slice_get, if◌then◌else◌}
 use Rattle.rand_xoshiro.specs.Xoshiro256.{of_seed, plus_plus}
 use Rattle.rand_xoshiro.specs.SplitMix64.{splitmix_seed}
 use Rattle.kt_spacetime.specs.declared.event.Event.{Event}
@@ -15,6 +15,9 @@ use Rattle.kt_core.specs.Worlds.{World, step_refusal}
 use Rattle.kt_core.specs.declared.faults.StepFault.{StepFault}
 use Rattle.kt_run.specs.declared.orders.Order.{Order}
 use Rattle.kt_run.specs.declared.orders.Order.TheVariants.{Default, Drawn}
+use Rattle.kt_run.specs.declared.recorded.Keep.{Keep}
+use Rattle.kt_run.specs.declared.recorded.Keep.TheVariants.{Steps}
+use Rattle.kt_run.specs.Refused.{IsGivenNext}
 use Rattle.kt_run.specs.Runs.{ToldAndHeld, BeginsRun, IsRun}
 
 -- the state of a generator, four words of 64 bits
@@ -65,6 +68,10 @@ abbrev pub generator_of : Order → Option Generator
 generator_of Default = None
 generator_of (Drawn seed) = Some (seeded seed)
 
+-- where steps are kept, just these are listed
+abbrev pub AreListed : Keep → List Step → List Step → Type 0
+AreListed keep listed steps = keep ≡ Steps → listed ≡ steps
+
 -- a run by just these steps leads to a world; they are those given and then those that come next, by a generator that was
 -- one and now is the other
 pub record GoesInOrder (plan : Planned) (cast : List (List Content)) (given steps : List Step) (was now : Option Generator) (world : World) (at : ToldAndHeld) : Type 0 where
@@ -79,11 +86,43 @@ pub record GoesInOrder (plan : Planned) (cast : List (List Content)) (given step
   pub ordered : AreInOrder plan begun was more
   pub generator : now ≡ generator_after plan begun was more
 
--- and has come to rest there
-pub record RestsInOrder (plan : Planned) (cast : List (List Content)) (given steps : List Step) (was : Option Generator) (world : World) (at : ToldAndHeld) : Type 0 where
+-- and has come to rest there; where steps are kept, all are listed
+pub record RestsInOrder (plan : Planned) (cast : List (List Content)) (given : List Step) (was : Option Generator) (keep : Keep) (listed : List Step) (world : World) (at : ToldAndHeld) : Type 0 where
+  pub steps : List Step
+  pub all : AreListed keep listed steps
   pub now : Option Generator
   pub goes : GoesInOrder plan cast given steps was now world at
   pub rest : is_at_rest plan goes.run.now ≡ true
+
+-- a run by so many steps, those given and then those that come next, leads to this world, where this one comes next
+pub record IsNextInOrder (plan : Planned) (cast : List (List Content)) (given : List Step) (was : Option Generator) (done : ℕ) (world : World) (step : Step) : Type 0 where
+  pub steps : List Step
+  pub now : Option Generator
+  pub at : ToldAndHeld
+  pub goes : GoesInOrder plan cast given steps was now world at
+  pub count : length steps ≡ done
+  pub next : step_in_order plan goes.run.now now ≡ Some step
+
+-- it is the next one of those given, or comes next after them
+abbrev pub IsNext : Planned → List (List Content) → List Step → Option Generator → ℕ → World → Step → Type 0
+IsNext plan cast given was done world step =
+    IsGivenNext plan cast given done world step ⊎ IsNextInOrder plan cast given was done world step
+
+-- it is refused
+pub record IsRefusedInOrder (plan : Planned) (cast : List (List Content)) (given : List Step) (was : Option Generator) (done : ℕ) (fault : StepFault) : Type 0 where
+  pub world : World
+  pub step : Step
+  pub next : IsNext plan cast given was done world step
+  pub refused : step_refusal world step ≡ Some fault
+
+-- it is not refused, and is one of this process
+pub record IsStoppedInOrder (plan : Planned) (cast : List (List Content)) (given : List Step) (was : Option Generator) (p : ℕ) : Type 0 where
+  pub done : ℕ
+  pub world : World
+  pub step : Step
+  pub next : IsNext plan cast given was done world step
+  pub own : process_of_step step ≡ p
+  pub made : step_refusal world step ≡ None
 
 -- these are the rows of a run by just these steps
 pub record IsRunBy (plan : Planned) (cast : List (List Content)) (steps : List Step) (rows : List Event) : Type 0 where

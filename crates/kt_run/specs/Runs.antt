@@ -100,11 +100,6 @@ pub record Goes (plan : Planned) (cast : List (List Content)) (steps : List Step
   pub offers : GivesOffers (rules_by cast) plan (progress_at_start plan 0) (given ++ more)
   pub due : HoldDue cast now.now.log at.has
 
--- and has come to rest there
-pub record Rests (plan : Planned) (cast : List (List Content)) (steps : List Step) (world : World) (at : ToldAndHeld) : Type 0 where
-  pub run : Goes plan cast steps world at
-  pub rest : is_at_rest plan run.now ≡ true
-
 -- these moves, each enabled in its turn, are a run of the plan: they lead from its start to a world at rest, whose log has
 -- these rows; each body that a command leaves to the object, of those that each process is given, is what that offers at
 -- its row

@@ -1,12 +1,11 @@
 //! A world with the objects of its processes.
 
-ghost use Rattle.std.specs.Prelude.{◌≡◌, ◌≢◌, ◌<◌, ◌+◌, ◌-◌, ◌^◌, ℕ, List, [], Some, None, true, false, map, length, slice_index_or, OnOk, IfOk, IfErr};
+ghost use Rattle.std.specs.Prelude.{◌≡◌, ◌≢◌, ◌<◌, ◌+◌, ◌-◌, ◌^◌, ℕ, List, [], Option, Some, None, true, false, map, length, slice_index_or, OnOk, IfOk, IfErr};
 ghost use Rattle.std.specs.List.{AllZip};
 ghost use Rattle.kt_core.specs.Ready.{IsReady};
 ghost use Rattle.kt_core.specs.Worlds.{can_make, step_refusal};
 ghost use Rattle.kt_core.specs.declared.faults.StepFault.{StepFault};
 ghost use Rattle.kt_held.specs.Holdings.{Content, content};
-ghost use Rattle.kt_plan.specs.declared.steps.Step.{Step};
 ghost use Rattle.kt_plans.specs.Looks.{look};
 ghost use Rattle.kt_plans.specs.Steps.{process_of_step};
 ghost use Rattle.kt_run.specs.Faults.{IsCast, Answers, is_of_cast, stopped_at};
@@ -15,35 +14,38 @@ ghost use Rattle.kt_core.specs.Shown.{Mirrors};
 ghost use Rattle.kt_held.specs.Refusals.{IsLeastRefused};
 ghost use Rattle.kt_plans.specs.Progress.{Progress};
 ghost use Rattle.kt_run.specs.Rejections.{MayReject, objects_held, RejectNoMore, HaveSpares};
-ghost use Rattle.kt_run.specs.Refused.{IsGivenRefused, IsDefaultRefused, IsStepRefused, IsStopped};
-ghost use Rattle.kt_run.specs.Runs.{told_and_held, Tells, StepsTo, Starts, BeginsRun, Rests};
+ghost use Rattle.kt_run.specs.Hindered.{TellsHindrance, TellsNoOther};
+ghost use Rattle.kt_run.specs.Orders.{Generator, generator_of, IsRefusedInOrder, IsStoppedInOrder, RestsInOrder};
+ghost use Rattle.kt_run.specs.Runs.{told_and_held, Tells, StepsTo, Starts, BeginsRun};
 ghost use Rattle.kt_run.specs.Telling.{AreEmpty};
 
 use crate::faults::RunFault;
 use crate::journals::{Journals, process_of};
 use crate::laws::laws_of_runs;
+use crate::orders::{Order, step_in_order};
+use crate::recorded::Keep;
 use kt_base::ProcNo;
 use kt_core::{Ready, StepFault, World};
 use kt_held::{Cast, Held, begin_all};
 use kt_object::Recoverable;
 use kt_plan::{Act, Give, Plan, Step, Told};
+use kt_plans::Hindrance;
 use std::alloc::Global;
 
-mod hindered;
-mod in_order;
 mod quiet;
 
-/// A world, what its processes hold, and what they were told.
+/// A world, what its processes hold, what they were told, and what stood in the way of a step given.
 #[derive(Drop)]
 pub(crate) struct RunState {
     alloc: Global,
     pub(crate) world: World,
     pub(crate) objects: Vec<Held>,
     pub(crate) journals: Journals,
+    pub(crate) hindrance: Option<Hindrance>,
     done: usize,
 }
 
-/// How many default steps a run has at most.
+/// How many steps a run goes on by at most.
 const MAX_STEPS: u32 = 4_294_967_295;
 
 impl RunState {
@@ -61,6 +63,7 @@ impl RunState {
         ensures plan { IfOk result (λ run_state. run_state.world.agenda.plan ≡ plan.now) }
         ensures journals { IfOk result (λ run_state. AreEmpty run_state.journals) }
         ensures none { IfOk result (λ run_state. length run_state.journals ≡ 0) }
+        ensures hindrance { IfOk result (λ run_state. run_state.hindrance ≡ None) }
         ensures done { IfOk result (λ run_state. run_state.done ≡ 0) }
         ensures per_process { IfOk result (λ run_state. length run_state.objects.items ≡ run_state.world.system.size) }
         ensures spares { IfOk result (λ run_state.
@@ -75,6 +78,7 @@ impl RunState {
             world,
             objects,
             journals: Journals::none(alloc),
+            hindrance: None,
             done: 0,
         })
     }
@@ -93,8 +97,14 @@ impl RunState {
         Ok(())
     }
 
-    /// The steps given, then default steps until there is none.
-    pub(crate) fn make_all(&mut self, steps: &[Step]) -> Result<(), RunFault>
+    /// The steps given, then those that come next in an order, until there is none; lists all that were
+    /// made, if they are to be kept. No run of a plan has so many steps that the loop ends before.
+    pub(crate) fn make_all(
+        &mut self,
+        steps: &[Step],
+        order: Order,
+        keep: Keep,
+    ) -> Result<Vec<Step>, RunFault>
         requires starts { Starts self.old.world.agenda.plan self.old.world }
         requires journals { AreEmpty self.old.journals }
         requires due { (cast : List (List Content)) × HoldDue cast [] (has_of self.old.objects.items
@@ -107,11 +117,17 @@ impl RunState {
         ensures refused { (cast : List (List Content)) → HoldDue cast [] (has_of self.old.objects.items
             (λ b. content (kind_of (b.vtable, b.value)) (value_of (b.vtable, b.value)))) →
             IfErr result (λ fault. (done : ℕ) (why : StepFault) → fault ≡ RunFault.Step done why →
-            IsStepRefused self.old.world.agenda.plan cast steps.now done why) }
+            IsRefusedInOrder self.old.world.agenda.plan cast steps.now (generator_of order) done why) }
+        ensures hindered { (cast : List (List Content)) → HoldDue cast [] (has_of self.old.objects.items
+            (λ b. content (kind_of (b.vtable, b.value)) (value_of (b.vtable, b.value)))) →
+            IfErr result (λ fault.
+            TellsHindrance self.old.world.agenda.plan cast steps.now fault self.new.hindrance) }
+        ensures unhindered { self.old.hindrance ≡ None →
+            IfErr result (λ fault. TellsNoOther fault self.new.hindrance) }
         ensures named { (cast : List (List Content)) → HoldDue cast [] (has_of self.old.objects.items
             (λ b. content (kind_of (b.vtable, b.value)) (value_of (b.vtable, b.value)))) →
             IfErr result (λ fault. (p : ℕ) → stopped_at fault ≡ Some p →
-            IsStopped self.old.world.agenda.plan cast steps.now p) }
+            IsStoppedInOrder self.old.world.agenda.plan cast steps.now (generator_of order) p) }
         ensures object { (cast : List (List Content)) → HoldDue cast [] (has_of self.old.objects.items
             (λ b. content (kind_of (b.vtable, b.value)) (value_of (b.vtable, b.value)))) →
             HaveSpares self.old.world.agenda.plan cast →
@@ -121,18 +137,29 @@ impl RunState {
         ensures count { OnOk result (length self.new.journals ≡ length self.old.journals) }
         ensures spares { OnOk result (AllZip (λ g h. AreLeft g.spares.items h.spares.items)
             self.old.objects.items self.new.objects.items) }
-        ensures rests { (cast : List (List Content)) → HoldDue cast []
-            (has_of self.old.objects.items
+        ensures rests { (cast : List (List Content)) → HoldDue cast [] (has_of self.old.objects.items
             (λ b. content (kind_of (b.vtable, b.value)) (value_of (b.vtable, b.value)))) →
-            OnOk result (Rests self.old.world.agenda.plan cast steps.now self.new.world
-            (told_and_held self.new.journals self.new.objects.items
+            IfOk result (λ made. RestsInOrder self.old.world.agenda.plan cast steps.now (generator_of order) keep
+            made.items self.new.world (told_and_held self.new.journals self.new.objects.items
             (λ b. content (kind_of (b.vtable, b.value)) (value_of (b.vtable, b.value))))) }
     {
+        kt_core::runs_of_worlds();
+        laws_of_runs();
         self.make_given(steps)?;
-        self.go_on()
+        let mut generator = order.generator();
+        let mut made = keep.list_of(self.alloc, steps)?;
+        for _number in 0..MAX_STEPS {
+            let found = step_in_order(&self.world, &mut generator);
+            let Some(step) = found else {
+                return Ok(made);
+            };
+            keep.note(&mut made, &step)?;
+            self.make(step)?;
+        }
+        unreachable!()
     }
 
-    /// The steps given.
+    /// The steps given. Where one is not enabled, what stands in its way is kept.
     fn make_given(&mut self, steps: &[Step]) -> Result<(), RunFault>
         requires starts { Starts self.old.world.agenda.plan self.old.world }
         requires journals { AreEmpty self.old.journals }
@@ -142,16 +169,25 @@ impl RunState {
         ensures untold { length self.old.journals ≡ 0 →
             IfErr result (λ fault. (p : ℕ) → fault ≢ RunFault.Journal p) }
         ensures plan { self.new.world.agenda.plan ≡ self.old.world.agenda.plan }
+        ensures hindrance { OnOk result (self.new.hindrance ≡ self.old.hindrance) }
         ensures done { OnOk result (self.new.done ≡ length steps.now) }
         ensures per_process { OnOk result (length self.new.objects.items ≡ self.new.world.system.size) }
-        ensures refused { (cast : List (List Content)) → HoldDue cast [] (has_of self.old.objects.items
+        ensures refused { (cast : List (List Content)) (was : Option Generator) → HoldDue cast []
+            (has_of self.old.objects.items
             (λ b. content (kind_of (b.vtable, b.value)) (value_of (b.vtable, b.value)))) →
             IfErr result (λ fault. (done : ℕ) (why : StepFault) → fault ≡ RunFault.Step done why →
-            IsGivenRefused self.old.world.agenda.plan cast steps.now done why) }
-        ensures named { (cast : List (List Content)) → HoldDue cast [] (has_of self.old.objects.items
+            IsRefusedInOrder self.old.world.agenda.plan cast steps.now was done why) }
+        ensures hindered { (cast : List (List Content)) → HoldDue cast [] (has_of self.old.objects.items
+            (λ b. content (kind_of (b.vtable, b.value)) (value_of (b.vtable, b.value)))) →
+            IfErr result (λ fault.
+            TellsHindrance self.old.world.agenda.plan cast steps.now fault self.new.hindrance) }
+        ensures unhindered { self.old.hindrance ≡ None →
+            IfErr result (λ fault. TellsNoOther fault self.new.hindrance) }
+        ensures named { (cast : List (List Content)) (was : Option Generator) → HoldDue cast []
+            (has_of self.old.objects.items
             (λ b. content (kind_of (b.vtable, b.value)) (value_of (b.vtable, b.value)))) →
             IfErr result (λ fault. (p : ℕ) → stopped_at fault ≡ Some p →
-            IsStopped self.old.world.agenda.plan cast steps.now p) }
+            IsStoppedInOrder self.old.world.agenda.plan cast steps.now was p) }
         ensures object { (cast : List (List Content)) → HoldDue cast [] (has_of self.old.objects.items
             (λ b. content (kind_of (b.vtable, b.value)) (value_of (b.vtable, b.value)))) →
             HaveSpares self.old.world.agenda.plan cast →
@@ -173,64 +209,12 @@ impl RunState {
         laws_of_runs();
         for step in steps {
             if !self.world.enabled(step) {
+                self.hindrance = self.world.hindrance(step);
                 return Err(RunFault::Step(self.done, StepFault::NotEnabled));
             }
             self.make(*step)?;
         }
         Ok(())
-    }
-
-    /// Default steps until there is none. No run of a plan has so many steps that the loop ends before.
-    fn go_on(&mut self) -> Result<(), RunFault>
-        requires begun { (cast : List (List Content)) × (steps : List Step)
-            × BeginsRun self.old.world.agenda.plan cast steps self.old.world
-            (told_and_held self.old.journals self.old.objects.items
-            (λ b. content (kind_of (b.vtable, b.value)) (value_of (b.vtable, b.value))))
-            × (self.old.done ≡ length steps) }
-        requires per_process { length self.old.objects.items ≡ self.old.world.system.size }
-        ensures fault { IfErr result (λ fault. is_of_cast fault ≡ false) }
-        ensures untold { length self.old.journals ≡ 0 →
-            IfErr result (λ fault. (p : ℕ) → fault ≢ RunFault.Journal p) }
-        ensures refused { (cast : List (List Content)) (steps : List Step) →
-            BeginsRun self.old.world.agenda.plan cast steps self.old.world
-            (told_and_held self.old.journals self.old.objects.items
-            (λ b. content (kind_of (b.vtable, b.value)) (value_of (b.vtable, b.value)))) →
-            self.old.done ≡ length steps →
-            IfErr result (λ fault. (done : ℕ) (why : StepFault) → fault ≡ RunFault.Step done why →
-            IsDefaultRefused self.old.world.agenda.plan cast steps done why) }
-        ensures named { (cast : List (List Content)) (steps : List Step) →
-            BeginsRun self.old.world.agenda.plan cast steps self.old.world
-            (told_and_held self.old.journals self.old.objects.items
-            (λ b. content (kind_of (b.vtable, b.value)) (value_of (b.vtable, b.value)))) →
-            self.old.done ≡ length steps →
-            IfErr result (λ fault. (p : ℕ) → stopped_at fault ≡ Some p →
-            IsStopped self.old.world.agenda.plan cast steps p) }
-        ensures object { (cast : List (List Content)) (steps : List Step) →
-            BeginsRun self.old.world.agenda.plan cast steps self.old.world
-            (told_and_held self.old.journals self.old.objects.items
-            (λ b. content (kind_of (b.vtable, b.value)) (value_of (b.vtable, b.value)))) →
-            HaveSpares self.old.world.agenda.plan cast →
-            IfErr result (λ fault. (p : ℕ) → fault ≡ RunFault.Object p →
-            MayReject (λ b saved. may_reject (b.vtable, b.value) saved) (first_of (slice_index_or cast p [])).kind
-            (slice_index_or (objects_held self.old.objects.items) p [])) }
-        ensures count { OnOk result (length self.new.journals ≡ length self.old.journals) }
-        ensures spares { OnOk result (AllZip (λ g h. AreLeft g.spares.items h.spares.items)
-            self.old.objects.items self.new.objects.items) }
-        ensures rests { (cast : List (List Content)) (steps : List Step) → BeginsRun self.old.world.agenda.plan cast steps self.old.world
-            (told_and_held self.old.journals self.old.objects.items
-            (λ b. content (kind_of (b.vtable, b.value)) (value_of (b.vtable, b.value)))) →
-            OnOk result (Rests self.old.world.agenda.plan cast steps self.new.world
-            (told_and_held self.new.journals self.new.objects.items
-            (λ b. content (kind_of (b.vtable, b.value)) (value_of (b.vtable, b.value))))) }
-    {
-        laws_of_runs();
-        for _number in 0..MAX_STEPS {
-            let Some(step) = self.world.default_step() else {
-                return Ok(());
-            };
-            self.make(step)?;
-        }
-        unreachable!()
     }
 
     /// Makes a step that is enabled: asks the process's object for what it needs, notes what is told, and does it.
@@ -243,6 +227,7 @@ impl RunState {
         ensures untold { length self.old.journals ≡ 0 →
             IfErr result (λ fault. (p : ℕ) → fault ≢ RunFault.Journal p) }
         ensures plan { self.new.world.agenda.plan ≡ self.old.world.agenda.plan }
+        ensures hindrance { self.new.hindrance ≡ self.old.hindrance }
         ensures done { OnOk result (self.new.done ≡ self.old.done + 1) }
         ensures per_process { OnOk result (length self.new.objects.items ≡ self.new.world.system.size) }
         ensures refused { IfErr result (λ fault. (done : ℕ) (why : StepFault) → fault ≡ RunFault.Step done why →

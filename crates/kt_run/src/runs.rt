@@ -1,6 +1,6 @@
 //! Serial runs.
 
-ghost use Rattle.std.specs.Prelude.{◌≡◌, ◌≢◌, ◌⊎◌, ℕ, [], None, All, map, slice_index, slice_index_or, OnOk, IfOk, IfErr};
+ghost use Rattle.std.specs.Prelude.{◌≡◌, ◌⊎◌, ℕ, [], None, All, map, slice_index, slice_index_or, OnOk, IfOk, IfErr};
 ghost use Rattle.std.specs.List.{AllZip};
 ghost use Rattle.kt_core.specs.declared.faults.StepFault.{StepFault};
 ghost use Rattle.kt_held.specs.Holdings.{content};
@@ -11,12 +11,14 @@ ghost use Rattle.kt_run.specs.Faults.{IsCast, Answers};
 ghost use Rattle.kt_run.specs.Objects.{has_of, HoldDue, AreLeft};
 ghost use Rattle.kt_run.specs.Refused.{IsStepRefused, IsStopped};
 ghost use Rattle.kt_run.specs.Rejections.{MayReject};
-ghost use Rattle.kt_run.specs.Runs.{IsPlayed, IsToldPlay};
+ghost use Rattle.kt_run.specs.Runs.{IsToldPlay};
 ghost use Rattle.kt_run.specs.Telling.{AreToldTheirRows};
 
 use crate::faults::RunFault;
 use crate::journals::Journals;
 use crate::laws::laws_of_runs;
+use crate::orders::Order;
+use crate::recorded::Keep;
 use crate::run_state::RunState;
 use kt_held::{Cast, Held};
 use kt_object::Recoverable;
@@ -87,48 +89,10 @@ pub fn run(alloc: Global, plan: &Plan, steps: &[Step], cast: Cast) -> Result<Out
     laws_of_runs();
     let mut run_state = RunState::begin(alloc, plan, cast)?;
     run_state.keep_journals()?;
-    run_state.make_all(steps)?;
+    run_state.make_all(steps, Order::Default, Keep::Log)?;
     Ok(Outcome {
         log: run_state.world.into_log(),
         told: run_state.journals.into_lists(),
         objects: run_state.objects,
     })
-}
-
-/// The log of a run as `run` makes it, with no list of what the processes were told.
-pub fn log_of(alloc: Global, plan: &Plan, steps: &[Step], cast: Cast) -> Result<SpaceTime, RunFault>
-    ensures cast { OnOk result (IsCast plan.now (map (λ row. map (λ b. kind_of b) row.items) cast.items)) }
-    ensures fault { IfErr result (Answers plan.now (map (λ row. map (λ b. kind_of b) row.items) cast.items)) }
-
-    // A step is refused only where those before it are a run.
-    ensures refused { IfErr result (λ fault. (done : ℕ) (why : StepFault) → fault ≡ RunFault.Step done why →
-        IsStepRefused plan.now (map (λ row. map (λ b. content (kind_of b) (value_of b)) row.items) cast.items) steps.now done why) }
-
-    // No list is kept of what a process is told, so none lacks memory.
-    ensures untold { IfErr result (λ fault. (p : ℕ) → fault ≢ RunFault.Journal p) }
-
-    // Where an object fails, it is either at first, that of the least process whose save may be refused; or in a step of
-    // its own that was not refused, where one of the objects that the process was given may reject a saved state of their
-    // kind.
-    ensures object { IfErr result (λ fault. (p : ℕ) → fault ≡ RunFault.Object p →
-        IsLeastRefused (λ b. may_save b) (λ b. may_refuse b) (map (λ row. row.items) cast.items) p
-        ⊎ (IsStopped plan.now (map (λ row. map (λ b. content (kind_of b) (value_of b)) row.items)
-        cast.items) steps.now p
-        × MayReject (λ b saved. may_reject b saved) (slice_index plan.now.kinds p)
-        (slice_index_or (map (λ row. row.items) cast.items) p []))) }
-
-    // It is that of a run of the plan which begins with the steps given, goes on by default steps, and comes to rest; and
-    // all is so of it that is promised of a run's.
-    ensures run { IfOk result (λ log. IsPlayed plan.now
-        (map (λ row. map (λ b. content (kind_of b) (value_of b)) row.items) cast.items) steps.now log.rows) }
-    ensures promised { IfOk result (λ log. IsPromised log.rows) }
-    ensures certified { IfOk result (λ log. IsCertified log.rows) }
-
-    // It follows the plan, told by its rows alone.
-    ensures follows { IfOk result (λ log. FollowsPlan plan.now log.rows) }
-{
-    laws_of_runs();
-    let mut run_state = RunState::begin(alloc, plan, cast)?;
-    run_state.make_all(steps)?;
-    Ok(run_state.world.into_log())
 }

@@ -33,6 +33,7 @@ impl RunState {
         ensures untold { length self.old.journals ≡ 0 →
             IfErr result (λ fault. (p : ℕ) → fault ≢ RunFault.Journal p) }
         ensures plan { self.new.world.agenda.plan ≡ self.old.world.agenda.plan }
+        ensures hindrance { self.new.hindrance ≡ self.old.hindrance }
         ensures done { OnOk result (self.new.done ≡ self.old.done + 1) }
         ensures per_process { OnOk result (length self.new.objects.items ≡ self.new.world.system.size) }
         ensures refused { IfErr result (λ fault. (done : ℕ) (why : StepFault) → fault ≡ RunFault.Step done why →

@@ -1,6 +1,5 @@
-use Rattle.std.proofs.Common.{◌≡◌, ◌∙◌, ◌<◌, ℕ, List, Some, length, ap, arith}
+use Rattle.std.proofs.Common.{◌∙◌, ℕ, Some, ap, arith}
 use Rattle.std.specs.Prelude.{slice_get}
-use Rattle.kt_plan.specs.declared.steps.Step.{Step}
 use Rattle.kt_core.specs.Choices.{choices, enabled_steps}
 use Rattle.kt_run.specs.Orders.{Generator, draw_below}
 use Rattle.kt_run.proofs.Choosing.{none_at, none_within, some_any}

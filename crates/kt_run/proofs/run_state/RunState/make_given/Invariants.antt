@@ -9,6 +9,7 @@ use Rattle.kt_run.proofs.run_state.RunState.make_given.Given as goal
 abbrev pub invariant-loop-step : goal.invariant-loop-step
 invariant-loop-step g l = record {
   plan : l.self.world.agenda.plan ≡ l.fn.self.world.agenda.plan;
+  hindrance : l.self.hindrance ≡ l.fn.self.hindrance;
   count : length l.self.journals ≡ length l.fn.self.journals;
   spares : AllZip (λ g h. AreLeft g.spares.items h.spares.items) l.fn.self.objects.items l.self.objects.items;
   rejects : RejectNoMore (λ b saved. (goal.Recoverable-dyn g (b.vtable, b.value)).may_reject b.value saved) (objects_held l.fn.self.objects.items) (objects_held l.self.objects.items);

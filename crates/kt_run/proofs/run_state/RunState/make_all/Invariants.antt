@@ -1,0 +1,23 @@
+use Rattle.std.proofs.Common.{◌≡◌}
+use Rattle.std.specs.Prelude.{List, [], length}
+use Rattle.std.specs.List.{AllZip}
+use Rattle.kt_held.specs.Holdings.{Content, content}
+use Rattle.kt_run.specs.Objects.{has_of, HoldDue, AreLeft}
+use Rattle.kt_run.specs.Orders.{generator_of}
+use Rattle.kt_run.specs.Rejections.{objects_held, RejectNoMore}
+use Rattle.kt_run.specs.Runs.{told_and_held}
+use Rattle.kt_run.proofs.Ordering.{GoesSoFar}
+use Rattle.kt_run.proofs.run_state.RunState.make_all.Given as goal
+
+abbrev pub invariant-loop-number : goal.invariant-loop-number
+invariant-loop-number g l = record {
+  plan : l.self.world.agenda.plan ≡ l.fn.self.world.agenda.plan;
+  hindrance : l.self.hindrance ≡ l.fn.self.hindrance;
+  count : length l.self.journals ≡ length l.fn.self.journals;
+  spares : AllZip (λ g h. AreLeft g.spares.items h.spares.items) l.fn.self.objects.items l.self.objects.items;
+  rejects : RejectNoMore (λ b saved. (goal.Recoverable-dyn g (b.vtable, b.value)).may_reject b.value saved) (objects_held l.fn.self.objects.items) (objects_held l.self.objects.items);
+  per_process : length l.self.objects.items ≡ l.self.world.system.size;
+  goes : (cast : List (List Content)) → HoldDue cast [] (has_of l.fn.self.objects.items (λ b. content ((goal.Recoverable-dyn g (b.vtable, b.value)).kind_of b.value) ((goal.Recoverable-dyn g (b.vtable, b.value)).value_of b.value)))
+      → GoesSoFar l.fn.self.world.agenda.plan cast l.fn.steps (generator_of l.fn.order) l.generator l.fn.keep l.made.items l.self.done l._number l.self.world
+      (told_and_held l.self.journals l.self.objects.items (λ b. content ((goal.Recoverable-dyn g (b.vtable, b.value)).kind_of b.value) ((goal.Recoverable-dyn g (b.vtable, b.value)).value_of b.value)));
+}
