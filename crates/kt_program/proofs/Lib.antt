@@ -1,6 +1,5 @@
 pub mod RunFacts
 pub mod Apart
-pub mod Opening
 pub mod Casting
 pub mod StoredLogs
 pub mod Commands
@@ -12,14 +11,11 @@ pub mod Pictures
 pub mod Reading
 pub mod Refused
 pub mod FaultLines
-pub mod BreachFacts
-pub mod HintFacts
-pub mod PlaceFacts
-pub mod Mapped
+pub mod Unread
 pub mod RunLaws
 pub mod OfOthers
 pub mod KeptRuns
 pub mod OrderedRuns
 pub mod MadeRuns
 pub mod Seeds
-pub mod HinderedFacts
+pub mod Lifts

@@ -1,5 +1,5 @@
 -- Runs over new objects, made in any way, and what is written of them.
-use Rattle.std.proofs.Common.{◌≡◌, ◌≢◌, ◌++◌, ℕ, Some, None, inl, inr, List, ap, refl, subst, sym, false}
+use Rattle.std.proofs.Common.{◌≡◌, ◌≢◌, ◌∙◌, ◌++◌, ℕ, Some, None, inl, inr, List, ap, refl, subst, sym, false}
 use Rattle.std.specs.Prelude.{Err}
 use Rattle.kt_core.specs.declared.faults.StepFault.{StepFault}
 use Rattle.kt_held.specs.Holdings.{Content}
@@ -15,6 +15,7 @@ use Rattle.kt_threads.specs.declared.faults.LiveFault.{LiveFault}
 use Rattle.kt_threads.specs.declared.faults.LiveFault.TheVariants as live_fault
 use Rattle.kt_program.specs.declared.fault.AppFault.{AppFault}
 use Rattle.kt_program.specs.declared.fault.AppFault.TheVariants as app
+use Rattle.kt_program.specs.declared.fault.Failure.{Failure}
 use Rattle.kt_program.specs.declared.fault.ProgramFault.{ProgramFault}
 use Rattle.kt_program.specs.declared.fault.ProgramFault.TheVariants as program
 use Rattle.kt_program.specs.declared.line.Run.{Run}
@@ -65,11 +66,11 @@ module _ (way : Way) (plan : Planned) (given : List Step) (old new : KeptOutputs
   }
 
 -- at a fault of such a run standard output has nothing new, unless the writer failed or there was no memory
-pub left_of_made : (Are : List Step → List Event → Type 0) (plan : Planned) (old new : KeptOutputs) (fault : AppFault)
-    → StopsRecording Are plan old new fault → LeavesPlayed (Err (program.App fault)) old.run.report new.run.report
-left_of_made Are plan old new fault stops = (
-  (λ e. cc (e)),
-  λ w m. report_kept Are plan old new fault stops (λ e. w (ap program.App e)) (λ e. m (ap program.App e)),
+pub left_of_made : (Are : List Step → List Event → Type 0) (plan : Planned) (old new : KeptOutputs) (failure : Failure) (fault : AppFault) → failure.fault ≡ program.App fault
+    → StopsRecording Are plan old new fault → LeavesPlayed (Err failure) old.run.report new.run.report
+left_of_made Are plan old new failure fault is stops = (
+  (λ e. cc (sym is ∙ e)),
+  λ w m. report_kept Are plan old new fault stops (λ e. w (is ∙ ap program.App e)) (λ e. m (is ∙ ap program.App e)),
 )
 
 -- a fault of outputs, or of what is done once they are open, is none of steps
@@ -81,8 +82,8 @@ pub outputs_named : (name : Name) (fault : ProgramFault) → IsOfOutputs fault �
 outputs_named name fault (inl e) = not_of_steps name fault (subst IsNotOfSteps (sym e) tt)
 outputs_named name fault (inr e) = not_of_steps name fault (subst IsNotOfSteps (sym e) tt)
 
-pub app_named : (name : Name) (fault : AppFault) → IsOfNamedSteps name (program.App fault)
-app_named name fault = not_of_steps name (program.App fault) tt
+pub app_named : (name : Name) (fault : ProgramFault) (why : AppFault) → fault ≡ program.App why → IsOfNamedSteps name fault
+app_named name fault why is = not_of_steps name fault (subst IsNotOfSteps (sym is) tt)
 
 pub scenario_named : (name : Name) (fault : ProgramFault) → IsNotOfSteps fault → IsOfNamedSteps name fault
 scenario_named name fault h = not_of_steps name fault h

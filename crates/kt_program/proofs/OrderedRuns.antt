@@ -10,13 +10,11 @@ use Rattle.kt_text.specs.Writing.{WritesFront}
 use Rattle.kt_plan.specs.Limits.{Planned}
 use Rattle.kt_plan.specs.declared.steps.Step.{Step}
 use Rattle.kt_spacetime.specs.declared.event.Event.{Event}
-use Rattle.kt_program.specs.Ending.{LeavesPlayed}
 use Rattle.kt_program.specs.Played.{IsOfWriting, WritesRun, outputs}
 use Rattle.kt_program.specs.Recorded.{IsOfRecording, IsRecorded, KeptOutputs, OfSome, StopsRecording, WritesLog, WritesSteps, kept_outputs}
 use Rattle.kt_program.specs.Stored.{BytesTold}
 use Rattle.kt_program.specs.declared.fault.AppFault.{AppFault}
 use Rattle.kt_program.specs.declared.fault.AppFault.TheVariants as app
-use Rattle.kt_program.specs.declared.fault.ProgramFault.TheVariants as program
 
 -- what is written of such a run is written of one that is other things too
 module _ (Are Be : List Step → List Event → Type 0) (so : (steps : List Step) (rows : List Event) → Are steps rows → Be steps rows) (plan : Planned) (old new : KeptOutputs) where
@@ -56,14 +54,6 @@ report_kept Are plan old new (app.Unfit why) s w m = absurd s
 report_kept Are plan old new (app.Picture why) s w m = absurd s
 report_kept Are plan old new (app.Log fault) s w m = absurd s
 report_kept Are plan old new (app.Cert fault) s w m = absurd s
-
--- at a fault of such a run standard output has nothing new, unless the writer failed or there was no memory
-pub left_of_kept : (Are : List Step → List Event → Type 0) (plan : Planned) (l c r s l' c' r' s' : BytesTold) (fault : AppFault)
-    → StopsRecording Are plan (kept_outputs (outputs l c r) s) (kept_outputs (outputs l' c' r') s') fault → LeavesPlayed (Err (program.App fault)) r r'
-left_of_kept Are plan l c r s l' c' r' s' fault stops = (
-  (λ e. cc (e)),
-  λ w m. report_kept Are plan (kept_outputs (outputs l c r) s) (kept_outputs (outputs l' c' r') s') fault stops (λ e. w (ap program.App e)) (λ e. m (ap program.App e)),
-)
 
 -- what follows of two facts of an answer
 pub if_ok_both : {T E : Type 0} (r : Result T E) (P Q R : T → Type 0) → ((value : T) → P value → Q value → R value) → IfOk r P → IfOk r Q → IfOk r R

@@ -85,8 +85,5 @@ some_picture told (Some file) names span log text h = record { names = names; sp
 module _ {F : Type 0} (told : F → BytesTold) (scenario cert : Name) (span : Span) (svg : Name) (text : List ℕ) (old new : BytesTold) (picture : IsPictureOfFile told scenario cert span text) where
   -- what is left on standard output
   pub leaves : TextGoesTo svg text old new → LeavesPicture old new
-  leaves goes = by_name svg goes
-    where
-      by_name : (n : Name) → TextGoesTo n text old new → LeavesPicture old new
-      by_name None h = inr (text, some_picture told cert picture.names span (told picture.file) text picture.picture, h)
-      by_name (Some other) h = inl h
+  leaves (inl goes) = inr (text, some_picture told cert picture.names span (told picture.file) text picture.picture, goes.1)
+  leaves (inr kept) = inl kept.1

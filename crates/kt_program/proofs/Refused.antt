@@ -8,9 +8,9 @@ use Rattle.clap.specs.Kinds.{FailsBy}
 use Rattle.clap.specs.declared.builder.command.Command.{Command}
 use Rattle.clap.specs.declared.error.Error.{Error}
 use Rattle.kt_program.specs.declared.ask.AskFault.{AskFault}
-use Rattle.kt_program.specs.declared.ask.AskFault.TheVariants.{SameName}
+use Rattle.kt_program.specs.declared.ask.AskFault.TheVariants as ask
 use Rattle.kt_program.specs.declared.line.Asked.{Asked}
-use Rattle.kt_program.specs.Asking.{IsUnasked}
+use Rattle.kt_program.specs.Asking.{IsOfName, IsUnasked}
 use Rattle.kt_program.specs.Names.{IsApart}
 use Rattle.kt_program.specs.Program.{IsDefined, IsErrorFor, NamesAsked, program}
 
@@ -41,7 +41,9 @@ error_of {T} command words texts result e defined same is fails =
     let here = subst (λ (app : App). is_simple_and_free app ≡ true → FailsBy (fault_of app texts) result) defined.shape fails in
     inl (subst (λ (list : List Text). FailsBy {T = T} (fault_of program list) (Err e)) same (subst (λ r. FailsBy {T = T} (fault_of program texts) r) is (here simple_and_free)))
 
-pub unasked : (words : List Text) (asked : Asked) (result : Result Asked AskFault) → NamesAsked (subcommand_of program words) asked → IfErr result (λ fault. fault ≡ SameName)
+pub unasked : (words : List Text) (asked : Asked) (result : Result Asked AskFault) → NamesAsked (subcommand_of program words) asked → IfErr result IsOfName
     → IfErr result (λ fault. ¬ IsApart asked) → IfErr result (IsUnasked words)
 unasked words asked (Ok given) named is twice = tt
-unasked words asked (Err fault) named is twice = subst (IsUnasked words) (sym is) (asked, named, twice)
+unasked words asked (Err (ask.SameName name)) named is twice = (asked, named, twice)
+unasked words asked (Err (ask.Line e)) named is twice = absurd is
+unasked words asked (Err ask.Memory) named is twice = absurd is

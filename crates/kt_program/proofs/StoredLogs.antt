@@ -9,7 +9,7 @@ use Rattle.kt_certify.specs.declared.fault.StreamFault.{StreamFault}
 use Rattle.kt_certify.specs.declared.fault.StreamFault.TheVariants.{Log, Unfit}
 use Rattle.kt_program.specs.declared.fault.AppFault.{AppFault}
 use Rattle.kt_program.specs.declared.fault.AppFault.TheVariants as app
-use Rattle.kt_program.specs.declared.fault.ProgramFault.{ProgramFault}
+use Rattle.kt_program.specs.declared.fault.Failure.{Failure}
 use Rattle.kt_program.specs.declared.fault.ProgramFault.TheVariants as program
 use Rattle.kt_program.specs.Certified.{AreOfFile, CertifiesTo, GoTo, IsUncertified, LeavesCertificates, LeavesCertified, of_stream, text_of_list}
 use Rattle.kt_program.specs.Names.{Name}
@@ -32,17 +32,14 @@ uncertified bytes fault answer e h = subst (IsUncertified bytes) (sym e) (of_fau
 module _ {F : Type 0} (told : F → BytesTold) (name : Name) (list : List Certificate) (old new : BytesTold) (file : AreOfFile told list) where
   -- what is left on standard output
   leaves : GoTo name list old new → LeavesCertificates old new
-  leaves goes = by_name name goes
-    where
-      by_name : (n : Name) → GoTo n list old new → LeavesCertificates old new
-      by_name None h = inr (file.1.rows, file.1.fit, subst (λ (l : List Certificate). Appends old new (text_of_list l)) file.1.certificates h)
-      by_name (Some other) h = inl h
+  leaves (inl goes) = inr (file.1.rows, file.1.fit, subst (λ (l : List Certificate). Appends old new (text_of_list l)) file.1.certificates goes.1)
+  leaves (inr kept) = inl kept.1
 
-  pub left : (result : Result Unit ProgramFault) → OnOk result (GoTo name list old new)
-      → IfErr result (λ fault. fault ≢ program.App app.Write → fault ≢ program.App app.Memory → new ≡ old) → LeavesCertified result old new
+  pub left : (result : Result Unit Failure) → OnOk result (GoTo name list old new)
+      → IfErr result (λ failure. failure.fault ≢ program.App app.Write → failure.fault ≢ program.App app.Memory → new ≡ old) → LeavesCertified result old new
   left (Ok u) goes kept = leaves goes
   left (Err fault) goes kept = kept
 
-  pub certified_to : (result : Result Unit ProgramFault) → OnOk result (GoTo name list old new) → OnOk result (CertifiesTo told name old new)
+  pub certified_to : (result : Result Unit Failure) → OnOk result (GoTo name list old new) → OnOk result (CertifiesTo told name old new)
   certified_to (Ok u) goes = (list, file, goes)
   certified_to (Err fault) goes = tt

@@ -8,11 +8,12 @@ use Rattle.kt_program.specs.declared.ask.AskFault.{AskFault}
 use Rattle.kt_program.specs.declared.ask.AskFault.TheVariants as ask
 use Rattle.kt_program.specs.declared.ending.Done.{Done}
 use Rattle.kt_program.specs.declared.ending.Done.TheVariants.{Judged, Explained, Played, Certified, Drawn, Shown}
+use Rattle.kt_program.specs.declared.fault.Failure.{Failure}
 use Rattle.kt_program.specs.declared.fault.ProgramFault.{ProgramFault}
 use Rattle.kt_program.specs.declared.fault.ProgramFault.TheVariants as program
 use Rattle.kt_program.specs.declared.line.Asked.{Asked}
-use Rattle.kt_program.specs.declared.line.Asked.TheVariants.{Certify, Check, Explain, Live, LiveRecorded, Play, PlayInOrder, Draw}
-use Rattle.kt_program.specs.Names.{IsApart, IsWriting, IsNamed}
+use Rattle.kt_program.specs.declared.line.Asked.TheVariants.{Certify, Check, Draw, Explain, Live, Play, Run}
+use Rattle.kt_program.specs.Names.{IsApart, IsNamed}
 use Rattle.kt_program.specs.Program.{IsErrorFor, NamesAsked, program as definition}
 
 -- words that name something to do, and an output by the name of an input or of another output
@@ -22,8 +23,14 @@ NameTwice words = (asked : Asked) × NamesAsked (subcommand_of definition words)
 -- why nothing is asked for: an error that clap's definition gives for the words, such a name, or no memory
 abbrev pub IsUnasked : List Text → AskFault → Type 0
 IsUnasked words (ask.Line e) = IsErrorFor words e
-IsUnasked words ask.SameName = NameTwice words
+IsUnasked words (ask.SameName name) = NameTwice words
 IsUnasked words ask.Memory = Unit {0}
+
+-- a name is given twice
+abbrev pub IsOfName : AskFault → Type 0
+IsOfName (ask.SameName name) = Unit {0}
+IsOfName (ask.Line e) = ⊥
+IsOfName ask.Memory = ⊥
 
 -- clap answers a request for help or for the version by such an error
 abbrev pub IsRequest : ErrorKind → Type 0
@@ -37,83 +44,43 @@ IsMistake kind = (kind ≢ OutOfMemory) × (kind ≢ DisplayHelp) × (kind ≢ D
 abbrev pub AreAnswered : List Text → (ErrorKind → Type 0) → Type 0
 AreAnswered words P = (e : Error) × IsErrorFor words e × P (kind_of e)
 
--- whether a scenario is to be run, serially with steps that may be given, or by threads; or a stored run judged, or a
--- stored log certified
+-- whether a scenario is to be run
 abbrev pub IsOfRun : Asked → Type 0
 IsOfRun (Play scenario steps log cert) = Unit {0}
-IsOfRun (PlayInOrder play) = Unit {0}
 IsOfRun (Live scenario log cert) = Unit {0}
-IsOfRun (LiveRecorded live) = Unit {0}
-IsOfRun (Check log cert) = ⊥
-IsOfRun (Explain log cert) = ⊥
-IsOfRun (Certify log cert) = ⊥
-IsOfRun (Draw asked) = ⊥
+IsOfRun (Run run) = Unit {0}
+IsOfRun _ = ⊥
 
--- whether a scenario is to be run serially
-abbrev pub IsPlay : Asked → Type 0
-IsPlay (Play scenario steps log cert) = Unit {0}
-IsPlay (PlayInOrder play) = Unit {0}
-IsPlay (Live scenario log cert) = ⊥
-IsPlay (LiveRecorded live) = ⊥
-IsPlay (Check log cert) = ⊥
-IsPlay (Explain log cert) = ⊥
-IsPlay (Certify log cert) = ⊥
-IsPlay (Draw asked) = ⊥
+-- whether steps are to be read
+abbrev pub IsOfSteps : Asked → Type 0
+IsOfSteps (Play scenario steps log cert) = IsNamed steps
+IsOfSteps (Run run) = IsNamed run.steps
+IsOfSteps _ = ⊥
 
 -- whether a stored run is to be judged
 abbrev pub IsCheck : Asked → Type 0
-IsCheck (Play scenario steps log cert) = ⊥
-IsCheck (PlayInOrder play) = ⊥
-IsCheck (Live scenario log cert) = ⊥
-IsCheck (LiveRecorded live) = ⊥
 IsCheck (Check log cert) = Unit {0}
-IsCheck (Explain log cert) = ⊥
-IsCheck (Certify log cert) = ⊥
-IsCheck (Draw asked) = ⊥
+IsCheck _ = ⊥
 
 -- whether a stored run is to be judged, and the answer told of
 abbrev pub IsExplain : Asked → Type 0
-IsExplain (Play scenario steps log cert) = ⊥
-IsExplain (PlayInOrder play) = ⊥
-IsExplain (Live scenario log cert) = ⊥
-IsExplain (LiveRecorded live) = ⊥
-IsExplain (Check log cert) = ⊥
 IsExplain (Explain log cert) = Unit {0}
-IsExplain (Certify log cert) = ⊥
-IsExplain (Draw asked) = ⊥
+IsExplain _ = ⊥
 
 -- whether a stored log is to be certified
 abbrev pub IsCertify : Asked → Type 0
-IsCertify (Play scenario steps log cert) = ⊥
-IsCertify (PlayInOrder play) = ⊥
-IsCertify (Live scenario log cert) = ⊥
-IsCertify (LiveRecorded live) = ⊥
-IsCertify (Check log cert) = ⊥
-IsCertify (Explain log cert) = ⊥
 IsCertify (Certify log cert) = Unit {0}
-IsCertify (Draw asked) = ⊥
+IsCertify _ = ⊥
 
 -- whether a stored log is to be drawn
 abbrev pub IsDraw : Asked → Type 0
-IsDraw (Play scenario steps log cert) = ⊥
-IsDraw (PlayInOrder play) = ⊥
-IsDraw (Live scenario log cert) = ⊥
-IsDraw (LiveRecorded live) = ⊥
-IsDraw (Check log cert) = ⊥
-IsDraw (Explain log cert) = ⊥
-IsDraw (Certify log cert) = ⊥
 IsDraw (Draw asked) = Unit {0}
+IsDraw _ = ⊥
 
 -- whether a scenario is to be read: to be run, or for the names of its objects
 abbrev pub IsOfScenario : Asked → Type 0
-IsOfScenario (Play scenario steps log cert) = Unit {0}
-IsOfScenario (PlayInOrder play) = Unit {0}
-IsOfScenario (Live scenario log cert) = Unit {0}
-IsOfScenario (LiveRecorded live) = Unit {0}
-IsOfScenario (Check log cert) = ⊥
-IsOfScenario (Explain log cert) = ⊥
-IsOfScenario (Certify log cert) = ⊥
 IsOfScenario (Draw asked) = IsNamed asked.names
+IsOfScenario asked = IsOfRun asked
 
 -- words that name something to do of such a sort, and no output by the name of an input or of another output
 abbrev pub Ask : List Text → (Asked → Type 0) → Type 0
@@ -133,9 +100,9 @@ DoneFor words Shown = AreAnswered words IsRequest
 -- what is refused for words
 abbrev pub RefusedFor : List Text → ProgramFault → Type 0
 RefusedFor words program.Line = AreAnswered words IsMistake ⊎ NameTwice words
-RefusedFor words program.SameFile = Ask words IsWriting
+RefusedFor words program.SameFile = Ask words (λ asked. Unit {0})
 RefusedFor words (program.Scenario fault) = Ask words IsOfScenario
-RefusedFor words (program.Steps fault) = Ask words IsPlay
+RefusedFor words (program.Steps fault) = Ask words IsOfSteps
 RefusedFor words program.Read = Ask words IsOfScenario
 RefusedFor words (program.App fault) = Unit {0}
 
@@ -149,6 +116,6 @@ IsUnshown kind program.Read = ⊥
 IsUnshown kind program.SameFile = ⊥
 
 -- how it ends for words
-abbrev pub EndsFor : List Text → Result Done ProgramFault → Type 0
+abbrev pub EndsFor : List Text → Result Done Failure → Type 0
 EndsFor words (Ok what) = DoneFor words what
-EndsFor words (Err fault) = RefusedFor words fault
+EndsFor words (Err failure) = RefusedFor words failure.fault

@@ -14,9 +14,10 @@ use Rattle.kt_certify.specs.declared.fault.StreamFault.{StreamFault}
 use Rattle.kt_certify.specs.declared.fault.StreamFault.TheVariants as stream
 use Rattle.kt_program.specs.declared.fault.AppFault.{AppFault}
 use Rattle.kt_program.specs.declared.fault.AppFault.TheVariants as app
+use Rattle.kt_program.specs.declared.fault.Failure.{Failure}
 use Rattle.kt_program.specs.declared.fault.ProgramFault.{ProgramFault}
 use Rattle.kt_program.specs.declared.fault.ProgramFault.TheVariants as program
-use Rattle.kt_program.specs.Names.{Name}
+use Rattle.kt_program.specs.Names.{IsStandard, Name}
 use Rattle.kt_program.specs.Stored.{BytesTold, records_told}
 
 -- the text of these certificates
@@ -56,8 +57,7 @@ of_stream (stream.Unfit why) = app.Unfit why
 
 -- these certificates go to standard output where no file is named for them
 abbrev pub GoTo : Name → List Certificate → BytesTold → BytesTold → Type 0
-GoTo None list old new = Appends old new (text_of_list list)
-GoTo (Some name) list old new = new ≡ old
+GoTo name list old new = (IsStandard name × Appends old new (text_of_list list)) ⊎ ((¬ IsStandard name) × (new ≡ old))
 
 -- these are the certificates of the rows that a file says
 abbrev pub AreOfFile : {F : Type 0} → (F → BytesTold) → List Certificate → Type 0
@@ -72,9 +72,9 @@ abbrev pub LeavesCertificates : BytesTold → BytesTold → Type 0
 LeavesCertificates old new = (new ≡ old) ⊎ ((read : List Event) × IsFitLog read × Appends old new (text_of_list (certificates read)))
 
 -- the same; at a fault nothing new, unless the writer failed or there was no memory for more of the certificates
-abbrev pub LeavesCertified : Result Unit ProgramFault → BytesTold → BytesTold → Type 0
+abbrev pub LeavesCertified : Result Unit Failure → BytesTold → BytesTold → Type 0
 LeavesCertified (Ok u) old new = LeavesCertificates old new
-LeavesCertified (Err fault) old new = fault ≢ program.App app.Write → fault ≢ program.App app.Memory → new ≡ old
+LeavesCertified (Err failure) old new = failure.fault ≢ program.App app.Write → failure.fault ≢ program.App app.Memory → new ≡ old
 
 -- a fault of certifying: none of the words, nor of a scenario or steps
 abbrev pub IsOfCertifying : ProgramFault → Type 0

@@ -14,12 +14,13 @@ use Rattle.kt_plan.specs.Limits.{Planned}
 use Rattle.kt_program.specs.declared.ending.Done.{Done}
 use Rattle.kt_program.specs.declared.fault.AppFault.{AppFault}
 use Rattle.kt_program.specs.declared.fault.AppFault.TheVariants as app
+use Rattle.kt_program.specs.declared.fault.Failure.{Failure}
 use Rattle.kt_program.specs.declared.fault.ProgramFault.{ProgramFault}
 use Rattle.kt_program.specs.declared.fault.ProgramFault.TheVariants as program
 use Rattle.kt_program.specs.declared.line.Drawing.{Drawing}
 use Rattle.kt_program.specs.Explained.{Say}
 use Rattle.kt_program.specs.Inputs.{IsPlanOfFile}
-use Rattle.kt_program.specs.Names.{Name, IsNamed}
+use Rattle.kt_program.specs.Names.{IsNamed, IsStandard, Name}
 use Rattle.kt_program.specs.Stored.{IsRefusal, BytesTold, records_told}
 
 -- it is written
@@ -75,8 +76,7 @@ AreNamesOf told (Some name) names = (plan : Planned) × IsPlanOfFile told plan �
 
 -- a text goes to standard output where no file is named for it
 abbrev pub TextGoesTo : Name → List ℕ → BytesTold → BytesTold → Type 0
-TextGoesTo None text old new = Appends old new text
-TextGoesTo (Some name) text old new = new ≡ old
+TextGoesTo name text old new = (IsStandard name × Appends old new text) ⊎ ((¬ IsStandard name) × (new ≡ old))
 
 -- a text is a picture of the log that bytes say, with the certificates that a file says, where one is named
 abbrev pub IsPictureWith : {F : Type 0} → (F → BytesTold) → Name → List (List ℕ) → Span → BytesTold → List ℕ → Type 0
@@ -107,9 +107,9 @@ abbrev pub LeavesPicture : BytesTold → BytesTold → Type 0
 LeavesPicture old new = (new ≡ old) ⊎ ((text : List ℕ) × IsSomePicture text × Appends old new text)
 
 -- the same; at a fault nothing new, unless the writer failed
-abbrev pub LeavesDrawn : Result Done ProgramFault → BytesTold → BytesTold → Type 0
+abbrev pub LeavesDrawn : Result Done Failure → BytesTold → BytesTold → Type 0
 LeavesDrawn (Ok what) old new = LeavesPicture old new
-LeavesDrawn (Err fault) old new = fault ≢ program.App app.Write → new ≡ old
+LeavesDrawn (Err failure) old new = failure.fault ≢ program.App app.Write → new ≡ old
 
 -- a fault of a scenario that is read for its names, where one is named
 abbrev pub IsOfNames : Name → ProgramFault → Type 0

@@ -12,34 +12,39 @@ use Rattle.kt_plans.specs.Follows.{FollowsPlan}
 use Rattle.kt_plans.specs.Headline.{IsPromised}
 use Rattle.kt_program.specs.declared.ending.Done.{Done}
 use Rattle.kt_program.specs.declared.ending.Done.TheVariants.{Judged, Explained, Played, Certified, Drawn, Shown}
-use Rattle.kt_program.specs.declared.fault.AppFault.{AppFault}
 use Rattle.kt_program.specs.declared.fault.AppFault.TheVariants as app
+use Rattle.kt_program.specs.declared.fault.Failure.{Failure}
 use Rattle.kt_program.specs.declared.fault.ProgramFault.{ProgramFault}
 use Rattle.kt_program.specs.declared.fault.ProgramFault.TheVariants as program
 use Rattle.kt_program.specs.declared.line.Asked.{Asked}
-use Rattle.kt_program.specs.declared.line.Run.{Run}
-use Rattle.kt_program.specs.declared.line.Asked.TheVariants.{Certify, Check, Explain, Live, LiveRecorded, Play, PlayInOrder, Draw}
+use Rattle.kt_program.specs.declared.line.Run.{Run as RunAsked}
+use Rattle.kt_program.specs.declared.line.Asked.TheVariants.{Certify, Check, Draw, Explain, Live, Play, Run}
 use Rattle.kt_program.specs.Asking.{Ask, IsCertify, IsOfRun}
 use Rattle.kt_run.specs.Runs.{IsLogOfRun}
 use Rattle.kt_program.specs.Certified.{CertifiesTo, LeavesCertificates}
 use Rattle.kt_program.specs.Drawn.{DrawsTo, LeavesPicture}
-use Rattle.kt_program.specs.Hints.{IsHinted}
-use Rattle.kt_program.specs.Explained.{AppendsExplained}
+use Rattle.kt_program.specs.Explained.{AppendsExplained, ExplainsFiles}
 use Rattle.kt_program.specs.Inputs.{AreGiven, IsPlanOfFile}
 use Rattle.kt_program.specs.Names.{Name}
 use Rattle.kt_program.specs.Played.{OverNew}
-use Rattle.kt_program.specs.Made.{IsMadeAs, lived_run, ordered_run, played_run, recorded_run, way_by}
-use Rattle.kt_program.specs.Status.{status_of}
-use Rattle.kt_program.specs.Stored.{BytesTold, is_yes, verdict_line}
+use Rattle.kt_program.specs.Made.{IsMadeAs, lived_run, played_run, way_by}
+use Rattle.kt_program.specs.Status.{ended_status}
+use Rattle.kt_program.specs.Stored.{BytesTold, JudgesFiles, is_yes, verdict_line}
 
 -- the line of an answer, which is a yes exactly where this is true
 abbrev pub AppendsAnswer : Bool → BytesTold → BytesTold → Type 0
 AppendsAnswer passed old new = (verdict : Verdict) × (passed ≡ is_yes verdict) × Appends old new (verdict_line verdict)
 
 -- the answer's line; at a fault nothing, unless it is one of the writer
-abbrev pub LeavesAnswer : Result Bool AppFault → BytesTold → BytesTold → Type 0
+abbrev pub LeavesAnswer : Result Bool Failure → BytesTold → BytesTold → Type 0
 LeavesAnswer (Ok passed) old new = AppendsAnswer passed old new
-LeavesAnswer (Err fault) old new = fault ≢ app.Write → new ≡ old
+LeavesAnswer (Err failure) old new = failure.fault ≢ program.App app.Write → new ≡ old
+
+-- a fault of judging: of what is read or written, or standard output is a file that was read
+abbrev pub IsOfJudging : ProgramFault → Type 0
+IsOfJudging program.SameFile = Unit {0}
+IsOfJudging (program.App fault) = Unit {0}
+IsOfJudging _ = ⊥
 
 -- the report of a run of a plan over new objects, of which all is so that is promised of a run
 pub record AppendsReport (old new : BytesTold) : Type 0 where
@@ -52,7 +57,7 @@ pub record AppendsReport (old new : BytesTold) : Type 0 where
 
 -- the report of a run over new objects, of a plan that a file says, which begins with the steps that are given and is made as
 -- is asked
-pub record AppendsRun {F : Type 0} (told : F → BytesTold) (asked : Run) (old new : BytesTold) : Type 0 where
+pub record AppendsRun {F : Type 0} (told : F → BytesTold) (asked : RunAsked) (old new : BytesTold) : Type 0 where
   pub plan : Planned
   pub planned : IsPlanOfFile told plan
   pub given : List Step
@@ -63,9 +68,10 @@ pub record AppendsRun {F : Type 0} (told : F → BytesTold) (asked : Run) (old n
   pub report : Appends old new (report_of plan rows (certificates rows))
 
 -- the run's report; at a fault nothing, unless a writer failed or there was no memory for more of the report
-abbrev pub LeavesPlayed : Result Done ProgramFault → BytesTold → BytesTold → Type 0
+abbrev pub LeavesPlayed : Result Done Failure → BytesTold → BytesTold → Type 0
 LeavesPlayed (Ok what) old new = AppendsReport old new
-LeavesPlayed (Err fault) old new = (fault ≢ program.Line) × (fault ≢ program.App app.Write → fault ≢ program.App app.Memory → new ≡ old)
+LeavesPlayed (Err failure) old new =
+    (failure.fault ≢ program.Line) × (failure.fault ≢ program.App app.Write → failure.fault ≢ program.App app.Memory → new ≡ old)
 
 -- a fault of a scenario or of steps, of their files, or of memory
 abbrev pub IsOfInput : ProgramFault → Type 0
@@ -106,62 +112,46 @@ LeavesDone Shown old new = Unit {0}
 -- what is written for what is asked: the report of a run of the scenario, made as is asked
 abbrev pub Plays : {F : Type 0} → (F → BytesTold) → BytesTold → BytesTold → Asked → Type 0
 Plays told old new (Play scenario steps log cert) = AppendsRun told (played_run scenario steps log cert) old new
-Plays told old new (PlayInOrder play) = AppendsRun told (ordered_run play) old new
+Plays told old new (Run run) = AppendsRun told run old new
 Plays told old new (Live scenario log cert) = AppendsRun told (lived_run scenario log cert) old new
-Plays told old new (LiveRecorded live) = AppendsRun told (recorded_run live) old new
-Plays told old new (Check log cert) = ⊥
-Plays told old new (Explain log cert) = ⊥
-Plays told old new (Certify log cert) = ⊥
-Plays told old new (Draw asked) = ⊥
+Plays told old new _ = ⊥
 
 -- where a scenario was run, that is written which these words ask for
 abbrev pub PlayedFor : {F : Type 0} → List Text → (F → BytesTold) → BytesTold → BytesTold → Done → Type 0
 PlayedFor words told old new Played = Ask words (Plays told old new)
-PlayedFor words told old new (Judged passed) = Unit {0}
-PlayedFor words told old new (Explained passed) = Unit {0}
-PlayedFor words told old new Certified = Unit {0}
-PlayedFor words told old new Drawn = Unit {0}
-PlayedFor words told old new Shown = Unit {0}
+PlayedFor words told old new _ = Unit {0}
+
+-- what is written of a stored run that is to be judged: the answer to the bytes of the two files, and what is told of it
+abbrev pub Judges : {F : Type 0} → (F → BytesTold) → BytesTold → BytesTold → Bool → Asked → Type 0
+Judges told old new passed (Check log cert) = JudgesFiles told old new passed
+Judges told old new passed (Explain log cert) = ExplainsFiles told old new passed
+Judges told old new passed _ = ⊥
+
+-- where a stored run was judged, that is written which these words ask for
+abbrev pub JudgedFor : {F : Type 0} → List Text → (F → BytesTold) → BytesTold → BytesTold → Done → Type 0
+JudgedFor words told old new (Judged passed) = Ask words (Judges told old new passed)
+JudgedFor words told old new (Explained passed) = Ask words (Judges told old new passed)
+JudgedFor words told old new _ = Unit {0}
 
 -- what is written of a log that is to be certified: its certificates go where that is asked
 abbrev pub Certifies : {F : Type 0} → (F → BytesTold) → BytesTold → BytesTold → Asked → Type 0
 Certifies told old new (Certify log cert) = CertifiesTo told cert old new
-Certifies told old new (Play scenario steps log cert) = ⊥
-Certifies told old new (PlayInOrder play) = ⊥
-Certifies told old new (Live scenario log cert) = ⊥
-Certifies told old new (LiveRecorded live) = ⊥
-Certifies told old new (Check log cert) = ⊥
-Certifies told old new (Explain log cert) = ⊥
-Certifies told old new (Draw asked) = ⊥
+Certifies told old new _ = ⊥
 
 -- where a log was certified, that is written which these words ask for
 abbrev pub CertifiedFor : {F : Type 0} → List Text → (F → BytesTold) → BytesTold → BytesTold → Done → Type 0
 CertifiedFor words told old new Certified = Ask words (Certifies told old new)
-CertifiedFor words told old new Played = Unit {0}
-CertifiedFor words told old new (Judged passed) = Unit {0}
-CertifiedFor words told old new (Explained passed) = Unit {0}
-CertifiedFor words told old new Drawn = Unit {0}
-CertifiedFor words told old new Shown = Unit {0}
+CertifiedFor words told old new _ = Unit {0}
 
 -- what is written of a log that is to be drawn: its picture goes where that is asked
 abbrev pub DrawsFor : {F : Type 0} → (F → BytesTold) → BytesTold → BytesTold → Asked → Type 0
 DrawsFor told old new (Draw asked) = DrawsTo told asked old new
-DrawsFor told old new (Play scenario steps log cert) = ⊥
-DrawsFor told old new (PlayInOrder play) = ⊥
-DrawsFor told old new (Live scenario log cert) = ⊥
-DrawsFor told old new (LiveRecorded live) = ⊥
-DrawsFor told old new (Check log cert) = ⊥
-DrawsFor told old new (Explain log cert) = ⊥
-DrawsFor told old new (Certify log cert) = ⊥
+DrawsFor told old new _ = ⊥
 
 -- where a log was drawn, that is written which these words ask for
 abbrev pub DrawnFor : {F : Type 0} → List Text → (F → BytesTold) → BytesTold → BytesTold → Done → Type 0
 DrawnFor words told old new Drawn = Ask words (DrawsFor told old new)
-DrawnFor words told old new Certified = Unit {0}
-DrawnFor words told old new Played = Unit {0}
-DrawnFor words told old new (Judged passed) = Unit {0}
-DrawnFor words told old new (Explained passed) = Unit {0}
-DrawnFor words told old new Shown = Unit {0}
+DrawnFor words told old new _ = Unit {0}
 
 -- whether a text of any length is to be written to standard output: a report, or certificates
 abbrev pub IsTextAsked : Asked → Type 0
@@ -172,20 +162,18 @@ abbrev pub IsInText : List Text → ProgramFault → Type 0
 IsInText words fault = (fault ≡ program.App app.Memory) × Ask words IsTextAsked
 
 -- what these words leave
-abbrev pub LeavesOutput : List Text → Result Done ProgramFault → BytesTold → BytesTold → Type 0
+abbrev pub LeavesOutput : List Text → Result Done Failure → BytesTold → BytesTold → Type 0
 LeavesOutput words (Ok what) old new = LeavesDone what old new
-LeavesOutput words (Err fault) old new = fault ≢ program.App app.Write → (new ≡ old) ⊎ IsInText words fault
+LeavesOutput words (Err failure) old new = failure.fault ≢ program.App app.Write → (new ≡ old) ⊎ IsInText words failure.fault
 
 -- how the program ends for these words: with the status of what it did; standard output has what that left, and standard
--- error the line of a fault, or a front part of it, and hints below it where they are told; and nothing new without a fault
-pub record EndsOn {F : Type 0} (told : F → BytesTold) (terminal : Bool) (words : List Text) (status : ℕ) (out_old out_new err_old err_new : BytesTold) : Type 0 where
-  pub outcome : Result Done ProgramFault
-  pub status_is : status ≡ status_of outcome
+-- error nothing new without a fault
+pub record EndsOn (words : List Text) (status : ℕ) (out_old out_new err_old err_new : BytesTold) : Type 0 where
+  pub outcome : Result Done Failure
+  pub status_is : status ≡ ended_status outcome
   pub output : LeavesOutput words outcome out_old out_new
   pub quiet : OnOk outcome (err_new ≡ err_old)
-  pub line : IfErr outcome (λ fault. IsHinted told terminal words fault err_old err_new)
 
 -- how it ends for the words that it was called with
-abbrev pub Ends : {F : Type 0} → (F → BytesTold) → Bool → ℕ → BytesTold → BytesTold → BytesTold → BytesTold → Type 0
-Ends told terminal status out_old out_new err_old err_new =
-    (words : List Text) × EndsOn told terminal words status out_old out_new err_old err_new
+abbrev pub Ends : ℕ → BytesTold → BytesTold → BytesTold → BytesTold → Type 0
+Ends status out_old out_new err_old err_new = (words : List Text) × EndsOn words status out_old out_new err_old err_new

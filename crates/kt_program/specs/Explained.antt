@@ -9,7 +9,8 @@ use Rattle.kt_checker.specs.Streamed.{SaysRows}
 use Rattle.kt_checker.specs.Words.{verdict_words}
 use Rattle.kt_explain.specs.declared.explanation.Explanation.{Explanation}
 use Rattle.kt_explain.specs.Told.{IsExplanation}
-use Rattle.kt_program.specs.declared.fault.AppFault.{AppFault}
+use Rattle.kt_program.specs.declared.fault.Failure.{Failure}
+use Rattle.kt_program.specs.declared.fault.ProgramFault.TheVariants as program
 use Rattle.kt_program.specs.declared.fault.AppFault.TheVariants as app
 use Rattle.kt_program.specs.Stored.{BytesTold, SayCertificates, is_yes}
 
@@ -40,6 +41,17 @@ AppendsExplained passed old new =
     (verdict : Verdict) × (lines : List ℕ) × (passed ≡ is_yes verdict) × Appends old new (explained_text verdict lines)
 
 -- the answer and what is told of it; at a fault nothing, unless it is one of the writer
-abbrev pub LeavesExplained : Result Bool AppFault → BytesTold → BytesTold → Type 0
+abbrev pub LeavesExplained : Result Bool Failure → BytesTold → BytesTold → Type 0
 LeavesExplained (Ok passed) old new = AppendsExplained passed old new
-LeavesExplained (Err fault) old new = fault ≢ app.Write → new ≡ old
+LeavesExplained (Err failure) old new = failure.fault ≢ program.App app.Write → new ≡ old
+
+-- the answer to the bytes of two files, a log's and its certificates', and what is told of it
+pub record ExplainsFiles {F : Type 0} (told : F → BytesTold) (old new : BytesTold) (passed : Bool) : Type 0 where
+  pub log : F
+  pub cert : F
+  pub verdict : Verdict
+  pub e : Explanation
+  pub lines : List ℕ
+  pub answer : IsExplainedOf (told log) (told cert) verdict e
+  pub yes : passed ≡ is_yes verdict
+  pub written : Appends old new (explained_text verdict lines)

@@ -1,7 +1,7 @@
 -- Which files were opened, and which of them are one.
 use Rattle.std.specs.Prelude.{◌≡◌, ◌≢◌, List, Option, Some, None}
 use Rattle.kt_program.specs.declared.files.FileNumber.{FileNumber}
-use Rattle.kt_program.specs.Names.{IsEachApart, Name}
+use Rattle.kt_program.specs.Names.{IsEachApart}
 
 -- a regular file that was opened, where that is told
 abbrev pub OpenedFile : Type 0
@@ -16,8 +16,3 @@ AreTwo None other = Unit {0}
 -- no output is an input or another output, as far as that is told
 abbrev pub AreOthers : List OpenedFile → List OpenedFile → Type 0
 AreOthers inputs outputs = IsEachApart AreTwo inputs outputs
-
--- a file is told only where a name is given
-abbrev pub IsToldOf : Name → OpenedFile → Type 0
-IsToldOf (Some name) file = Unit {0}
-IsToldOf None file = file ≡ None

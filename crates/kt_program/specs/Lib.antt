@@ -16,9 +16,3 @@ pub mod Recorded
 pub mod KeptLives
 pub mod Status
 pub mod Stored
-pub mod Places
-pub mod Breaches
-pub mod Hints
-pub mod Hindrances
-pub mod Expected
-pub mod Reasons

@@ -21,8 +21,6 @@ use Rattle.kt_program.specs.declared.fault.AppFault.{AppFault}
 use Rattle.kt_program.specs.declared.fault.AppFault.TheVariants as app
 use Rattle.kt_program.specs.declared.line.By.{By}
 use Rattle.kt_program.specs.declared.line.By.TheVariants.{Serial, Threads}
-use Rattle.kt_program.specs.declared.line.OrderedPlay.{OrderedPlay}
-use Rattle.kt_program.specs.declared.line.RecordedLive.{RecordedLive}
 use Rattle.kt_program.specs.declared.line.Run.{Run}
 use Rattle.kt_program.specs.declared.outputs.Outputs.{Outputs}
 use Rattle.kt_program.specs.declared.runs.Way.{Way}
@@ -34,18 +32,12 @@ use Rattle.kt_program.specs.Played.{AreNew, outputs}
 use Rattle.kt_program.specs.Recorded.{IsKeptRun, KeptOutputs, kept_outputs}
 use Rattle.kt_program.specs.Stored.{BytesTold}
 
--- the runs that are asked for
+-- the runs that are asked for, by default steps or by threads, where no steps are kept
 abbrev pub played_run : Bor Text → Name → Name → Name → Run
 played_run scenario steps log cert = record { by = Serial; scenario = scenario; steps = steps; seed = None; kept = None; log = log; cert = cert }
 
 abbrev pub lived_run : Bor Text → Name → Name → Run
 lived_run scenario log cert = record { by = Threads; scenario = scenario; steps = None; seed = None; kept = None; log = log; cert = cert }
-
-abbrev pub ordered_run : OrderedPlay → Run
-ordered_run play = record { by = Serial; scenario = play.scenario; steps = play.steps; seed = play.seed; kept = play.kept; log = play.log; cert = play.cert }
-
-abbrev pub recorded_run : RecordedLive → Run
-recorded_run live = record { by = Threads; scenario = live.scenario; steps = None; seed = None; kept = Some live.kept; log = live.log; cert = live.cert }
 
 -- how a run is made: its steps are kept where they are to be written, or drawn
 abbrev pub way_by : By → Option ℕ → Name → Way

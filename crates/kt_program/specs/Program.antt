@@ -1,5 +1,5 @@
 -- The command line as clap reads it.
-use Rattle.std.specs.Prelude.{◌≡◌, ◌<◌, ◌^◌, ◌⊎◌, ℕ, List, Option, Some, None, option_map, codes, true, false}
+use Rattle.std.specs.Prelude.{◌≡◌, ◌≢◌, ◌<◌, ◌^◌, ◌⊎◌, ℕ, List, Option, Some, None, option_map, codes, true, false}
 use Rattle.clap.specs.Words.{App, Rule, Row, Text, rule_of, app_of, new_app, new_rule, with_rule, with_subcommand, first_of, subcommand_of}
 use Rattle.std.specs.Fmt.{decimal}
 use Rattle.clap.specs.Words.{Kinds, HasKind, fault_of, kind_of}
@@ -11,8 +11,11 @@ use Rattle.clap.specs.declared.builder.arg.Arg.{Arg}
 use Rattle.clap.specs.declared.builder.action.ArgAction.TheVariants.{SetTrue}
 use Rattle.clap.specs.declared.builder.value_parser.ValueParser.TheVariants.{Unsigned}
 use Rattle.kt_program.specs.declared.line.Asked.{Asked}
-use Rattle.kt_program.specs.declared.line.Asked.TheVariants.{Certify, Check, Explain, Live, LiveRecorded, Play, PlayInOrder, Draw}
+use Rattle.kt_program.specs.declared.line.Asked.TheVariants.{Certify, Check, Draw, Explain, Live, Play, Run}
+use Rattle.kt_program.specs.declared.line.By.{By}
+use Rattle.kt_program.specs.declared.line.By.TheVariants.{Serial, Threads}
 use Rattle.kt_program.specs.declared.line.Drawing.{Drawing}
+use Rattle.kt_program.specs.declared.line.Run.{Run as RunAsked}
 
 -- a word that has to be there, with a name in help
 abbrev pub wanted : Text → Rule
@@ -38,9 +41,13 @@ scenario_command name = with_rule (new_app name) (wanted (codes "scenario"))
 abbrev pub log_command : Text → App
 log_command name = with_rule (new_app name) (wanted (codes "log"))
 
--- a command with files for the log and the certificates of its run
+-- a command with the switch for what is told below a fault's line
+abbrev pub with_hints : App → App
+with_hints app = with_rule app (switch (codes "hints"))
+
+-- a command with files for the log and the certificates of its run, and with the switch
 abbrev pub with_outputs : App → App
-with_outputs app = with_rule (with_rule app (optional (codes "log"))) (optional (codes "cert"))
+with_outputs app = with_hints (with_rule (with_rule app (optional (codes "log"))) (optional (codes "cert")))
 
 -- the command that plays a scenario
 abbrev pub play : App
@@ -52,15 +59,16 @@ live = with_outputs (with_rule (scenario_command (codes "live")) (optional (code
 
 -- the command that judges a stored run
 abbrev pub check : App
-check = with_rule (with_rule (log_command (codes "check")) (wanted (codes "cert"))) (switch (codes "explain"))
+check = with_hints (with_rule (with_rule (log_command (codes "check")) (wanted (codes "cert"))) (switch (codes "explain")))
 
 -- the command that certifies a stored log
 abbrev pub certify : App
-certify = with_rule (log_command (codes "certify")) (optional (codes "cert"))
+certify = with_hints (with_rule (log_command (codes "certify")) (optional (codes "cert")))
 
 -- the command that draws a stored log
 abbrev pub draw : App
-draw = with_rule (with_rule (with_rule (with_rule (with_rule (log_command (codes "draw")) (optional (codes "cert"))) (optional (codes "names"))) (optional (codes "from"))) (optional (codes "to"))) (optional (codes "svg"))
+draw =
+    with_hints (with_rule (with_rule (with_rule (with_rule (with_rule (log_command (codes "draw")) (optional (codes "cert"))) (optional (codes "names"))) (optional (codes "from"))) (optional (codes "to"))) (optional (codes "svg")))
 
 -- a command with a version
 abbrev pub with_version : App → App
@@ -68,7 +76,7 @@ with_version app = record app { top = record app.top { has_version = true } }
 
 -- the program's command with its switch
 abbrev pub switched : App
-switched = with_rule (with_version (new_app (codes "koo_toueg"))) (switch (codes "hints"))
+switched = with_hints (with_version (new_app (codes "koo_toueg")))
 
 -- the program's command line
 abbrev pub program : App
@@ -137,16 +145,27 @@ pub record NamesDraw (rows : List Row) (asked : Drawing) : Type 0 where
   pub to_is : IsGivenNumber (codes "to") rows asked.span.to
   pub svg_is : first_of (codes "svg") rows ≡ option_map (λ s. s.now) asked.svg
 
+-- what the matches of `live` name of a run whose steps are written: none come first, and none are drawn
+pub record NamesRecord (rows : List Row) (run : RunAsked) : Type 0 where
+  pub record_is : first_of (codes "record") rows ≡ option_map (λ s. s.now) run.kept
+  pub some : run.kept ≢ None
+  pub no_steps : run.steps ≡ None
+  pub no_seed : run.seed ≡ None
+
+-- what the matches of `play` or of `live` name of a run with a seed, or whose steps are written
+abbrev pub NamesRun : By → Text → List Row → RunAsked → Type 0
+NamesRun Serial name rows run =
+    (name ≡ codes "play") × NamesPlay rows run.scenario.now (option_map (λ s. s.now) run.steps) (option_map (λ s. s.now) run.log) (option_map (λ s. s.now) run.cert) × NamesOrder rows run.seed (option_map (λ s. s.now) run.kept)
+NamesRun Threads name rows run =
+    (name ≡ codes "live") × NamesLive rows run.scenario.now (option_map (λ s. s.now) run.log) (option_map (λ s. s.now) run.cert) × NamesRecord rows run
+
 -- what a subcommand's matches name
 abbrev pub NamesIn : Text → List Row → Asked → Type 0
 NamesIn name rows (Play scenario steps log cert) =
     (name ≡ codes "play") × NamesPlay rows scenario.now (option_map (λ s. s.now) steps) (option_map (λ s. s.now) log) (option_map (λ s. s.now) cert) × NamesNoOrder rows
-NamesIn name rows (PlayInOrder play) =
-    (name ≡ codes "play") × NamesPlay rows play.scenario.now (option_map (λ s. s.now) play.steps) (option_map (λ s. s.now) play.log) (option_map (λ s. s.now) play.cert) × NamesOrder rows play.seed (option_map (λ s. s.now) play.kept)
 NamesIn name rows (Live scenario log cert) =
     (name ≡ codes "live") × NamesLive rows scenario.now (option_map (λ s. s.now) log) (option_map (λ s. s.now) cert) × (first_of (codes "record") rows ≡ None)
-NamesIn name rows (LiveRecorded live) =
-    (name ≡ codes "live") × NamesLive rows live.scenario.now (option_map (λ s. s.now) live.log) (option_map (λ s. s.now) live.cert) × (first_of (codes "record") rows ≡ Some live.kept.now)
+NamesIn name rows (Run run) = NamesRun run.by name rows run
 NamesIn name rows (Check log cert) = (name ≡ codes "check") × NamesCheck rows log.now cert.now × ¬ IsSet (codes "explain") rows
 NamesIn name rows (Explain log cert) = (name ≡ codes "check") × NamesCheck rows log.now cert.now × IsSet (codes "explain") rows
 NamesIn name rows (Certify log cert) = (name ≡ codes "certify") × (first_of (codes "log") rows ≡ Some log.now) × (first_of (codes "cert") rows ≡ option_map (λ s. s.now) cert)

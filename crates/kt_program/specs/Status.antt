@@ -2,6 +2,7 @@
 use Rattle.std.specs.Prelude.{ℕ, Bool, true, false, Result, Ok, Err}
 use Rattle.kt_program.specs.declared.ending.Done.{Done}
 use Rattle.kt_program.specs.declared.ending.Done.TheVariants.{Judged, Explained, Played, Certified, Drawn, Shown}
+use Rattle.kt_program.specs.declared.fault.Failure.{Failure}
 use Rattle.kt_program.specs.declared.fault.ProgramFault.{ProgramFault}
 use Rattle.kt_program.specs.Faults.{refusal_status}
 
@@ -23,3 +24,7 @@ done_status Shown = 0
 abbrev pub status_of : Result Done ProgramFault → ℕ
 status_of (Ok what) = done_status what
 status_of (Err fault) = refusal_status fault
+
+abbrev pub ended_status : Result Done Failure → ℕ
+ended_status (Ok what) = done_status what
+ended_status (Err failure) = refusal_status failure.fault

@@ -1,5 +1,6 @@
 -- What the program answers to a stored log with its certificates.
 use Rattle.std.specs.Prelude.{◌≡◌, ◌≢◌, ◌↔◌, ℕ, Bool, true, false, Option, List, [], ◌∷◌, ◌++◌, IfSome}
+use Rattle.std.specs.Io.KnownBytes.{Appends}
 use Rattle.kt_spacetime.specs.declared.event.Event.{Event}
 use Rattle.kt_log_text.specs.declared.fault.LogFault.{LogFault}
 use Rattle.kt_log_text.specs.declared.fault.LogFault.TheVariants as log
@@ -49,6 +50,16 @@ IsExact log cert passed =
 -- the line of an answer
 abbrev pub verdict_line : Verdict → List ℕ
 verdict_line verdict = verdict_words verdict ++ 10 ∷ []
+
+-- the line of the checker's answer to the bytes of two files, a log's and its certificates', which is a yes exactly where this is
+-- true
+pub record JudgesFiles {F : Type 0} (told : F → BytesTold) (old new : BytesTold) (passed : Bool) : Type 0 where
+  pub log : F
+  pub cert : F
+  pub verdict : Verdict
+  pub answer : IsVerdictOf (told log) (told cert) verdict
+  pub yes : passed ≡ is_yes verdict
+  pub written : Appends old new (verdict_line verdict)
 
 -- what is wrong where the program does not answer: the first fault of the log, or that of the certificates of a log
 -- that was read; what could be written was read; nothing is said of want of memory

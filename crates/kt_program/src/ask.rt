@@ -3,14 +3,14 @@
 ghost use Rattle.std.specs.Prelude.{◌≡◌, ◌≢◌, ◌<◌, ◌^◌, ◌↔◌, ℕ, codes, IfOk, IfErr, IfSome, IfNone, IsTrue, Some, option_map, Option};
 ghost use Rattle.std.specs.Fmt.{decimal};
 ghost use Rattle.clap.specs.Words.{App, Rule, with_rule, with_subcommand, first_of, kind_of, new_app, subcommand_of, subcommand_rows_of, rows_of, found_of};
-ghost use Rattle.kt_program.specs.Program.{program, certify, check, live, numeric, play, log_command, scenario_command, with_outputs, optional, switch, switched, wanted, with_version, IsRule, IsDefined, IsSet, NamesAsked, NamesIn, NamesNoOrder, draw, IsGivenNumber};
+ghost use Rattle.kt_program.specs.Program.{program, certify, check, live, numeric, play, log_command, scenario_command, with_hints, with_outputs, optional, switch, switched, wanted, with_version, IsRule, IsDefined, IsSet, NamesAsked, NamesIn, NamesNoOrder, draw, IsGivenNumber, SpellsSeed};
 ghost use Rattle.clap.specs.declared.error.kind.ErrorKind.TheVariants.{MissingSubcommand};
 ghost use Rattle.kt_program.specs.declared.line.Asked.{Asked};
-ghost use Rattle.kt_program.specs.Asking.{IsUnasked};
+ghost use Rattle.kt_program.specs.Asking.{IsOfName, IsUnasked};
 ghost use Rattle.kt_program.specs.Names.{IsApart};
-ghost use Rattle.kt_program.specs.declared.ask.AskFault.TheVariants.{Line, Memory as OutOfMemory, SameName};
+ghost use Rattle.kt_program.specs.declared.ask.AskFault.TheVariants.{Line, Memory as OutOfMemory};
 
-use crate::line::{Asked, Drawing, OrderedPlay, RecordedLive};
+use crate::line::{Asked, By, Drawing, Run};
 use crate::words::Words;
 use clap::error::ErrorKind;
 use clap::{Arg, ArgAction, ArgMatches, Command, Error, value_parser};
@@ -139,31 +139,38 @@ const STATUSES: &str = "Exit status:
   1  the answer of check is no, or the log has no certificates
   2  the command line or what a file says is refused, or a step is not enabled
   3  a file cannot be read, or the output not be written
-  4  there is not enough memory, or a run cannot go on";
+  4  there is not enough memory, or a run cannot go on
+
+Names of files:
+  -    standard input where a file is read, standard output where one is written
+  ./-  the file of that name
+
+Environment:
+  KOO_TOUEG_HINTS  asks for --hints, unless it is 0";
 
 /// Why a command line was refused.
 #[derive(Debug, Drop)]
-pub enum AskFault {
+pub enum AskFault<'a> {
     /// As clap says; want of memory has the kind `OutOfMemory`, and a request for help is one that clap answers.
     Line(Error),
-    /// A file that is to be written has the name of one that is read, or of another one that is written.
-    SameName,
+    /// A file that is to be written has the name of one that is read, or of another one that is written: this one.
+    SameName(&'a str),
     /// There was no memory for the definition of the command line.
     Memory,
 }
 
-impl From<AllocError> for AskFault {
+impl<'a> From<AllocError> for AskFault<'a> {
     ghost from_gives = { λ _ e. e ≡ OutOfMemory };
 
-    fn from(_fault: AllocError) -> AskFault {
+    fn from(_fault: AllocError) -> AskFault<'a> {
         AskFault::Memory
     }
 }
 
-impl From<Error> for AskFault {
+impl<'a> From<Error> for AskFault<'a> {
     ghost from_gives = { λ e f. f ≡ Line e };
 
-    fn from(error: Error) -> AskFault {
+    fn from(error: Error) -> AskFault<'a> {
         AskFault::Line(error)
     }
 }
@@ -248,6 +255,16 @@ fn with_arg<'a>(
     command?.arg(arg)
 }
 
+// A command with the switch for what is told below a fault's line.
+fn with_hints<'a>(
+    alloc: Global,
+    command: Result<Command<'a>, AllocError>,
+) -> Result<Command<'a>, AllocError>
+    ensures { (app : App) → IfOk command.entry (IsDefined app) → IfOk result (IsDefined (with_hints app)) }
+{
+    with_arg(command, plain_switch(alloc, "hints", ABOUT_HINTS))
+}
+
 // A command with one more subcommand.
 #[tactic(auto, using(crate::proofs::Commands::subcommand_added))]
 fn with_subcommand<'a>(
@@ -313,7 +330,7 @@ fn log_command<'a>(
     )
 }
 
-// A command with files for the log and the certificates of its run.
+// A command with files for the log and the certificates of its run, and with the switch.
 fn with_outputs<'a>(
     alloc: Global,
     command: Result<Command<'a>, AllocError>,
@@ -324,10 +341,11 @@ fn with_outputs<'a>(
         command,
         optional_word(alloc, "log", ABOUT_LOG_OUT, ABOUT_LOG_OUT),
     );
-    with_arg(
+    let command = with_arg(
         command,
         optional_word(alloc, "cert", ABOUT_CERT_OUT, ABOUT_CERT_OUT),
-    )
+    );
+    with_hints(alloc, command)
 }
 
 fn play_command<'a>(alloc: Global) -> Result<Command<'a>, AllocError>
@@ -368,20 +386,22 @@ fn check_command<'a>(alloc: Global) -> Result<Command<'a>, AllocError>
         command,
         wanted_word(alloc, "cert", "CERT", ABOUT_CERT, LONG_ABOUT_CERT),
     );
-    with_arg(
+    let command = with_arg(
         command,
         switch(alloc, "explain", ABOUT_EXPLAIN, LONG_ABOUT_EXPLAIN),
-    )
+    );
+    with_hints(alloc, command)
 }
 
 fn certify_command<'a>(alloc: Global) -> Result<Command<'a>, AllocError>
     ensures { IfOk result (IsDefined certify) }
 {
     let command = log_command(alloc, "certify", ABOUT_CERTIFY, LONG_ABOUT_CERTIFY);
-    with_arg(
+    let command = with_arg(
         command,
         optional_word(alloc, "cert", ABOUT_CERT_FILE, ABOUT_CERT_FILE),
-    )
+    );
+    with_hints(alloc, command)
 }
 
 fn draw_command<'a>(alloc: Global) -> Result<Command<'a>, AllocError>
@@ -398,7 +418,8 @@ fn draw_command<'a>(alloc: Global) -> Result<Command<'a>, AllocError>
     );
     let command = with_arg(command, optional_value(alloc, "from", "ROW", ABOUT_FROM));
     let command = with_arg(command, optional_value(alloc, "to", "ROW", ABOUT_TO));
-    with_arg(command, optional_value(alloc, "svg", "FILE", ABOUT_SVG))
+    let command = with_arg(command, optional_value(alloc, "svg", "FILE", ABOUT_SVG));
+    with_hints(alloc, command)
 }
 
 // The program's command, without its switch and without what it may be asked to do.
@@ -417,10 +438,7 @@ fn bare_command<'a>(alloc: Global) -> Result<Command<'a>, AllocError>
 fn switched_command<'a>(alloc: Global) -> Result<Command<'a>, AllocError>
     ensures { IfOk result (IsDefined switched) }
 {
-    with_arg(
-        bare_command(alloc),
-        plain_switch(alloc, "hints", ABOUT_HINTS),
-    )
+    with_hints(alloc, bare_command(alloc))
 }
 
 fn program_command<'a>(alloc: Global) -> Result<Command<'a>, AllocError>
@@ -472,45 +490,49 @@ fn asked_of_play<'a>(matches: &ArgMatches<'a>) -> Option<Asked<'a>>
 {
     match (text_of(matches, "seed"), text_of(matches, "record")) {
         (None, None) => plain_play(matches),
-        (Some(seed), kept) => seeded_play(matches, seed, kept),
-        (None, Some(kept)) => recorded_play(matches, kept),
+        (seed, kept) => ordered_play(matches, seed, kept),
     }
 }
 
-// What the matches of `play` ask for where they have a seed.
-#[tactic(auto, using(crate::proofs::Seeds::seeded, crate::proofs::Seeds::no_number))]
-fn seeded_play<'a>(matches: &ArgMatches<'a>, seed: &str, kept: Option<&'a str>) -> Option<Asked<'a>>
-    requires seed { first_of (codes "seed") (rows_of (found_of matches.now)) ≡ Some seed.now }
+// What they ask for where they have a seed, or a file for the steps that are made.
+#[tactic(auto, using(crate::proofs::Seeds::ordered, crate::proofs::Seeds::no_number))]
+fn ordered_play<'a>(
+    matches: &ArgMatches<'a>,
+    seed: Option<&str>,
+    kept: Option<&'a str>,
+) -> Option<Asked<'a>>
+    requires seed { first_of (codes "seed") (rows_of (found_of matches.now)) ≡ option_map (λ s. s.now) seed }
     requires kept { first_of (codes "record") (rows_of (found_of matches.now)) ≡ option_map (λ s. s.now) kept }
+    requires some { ¬ NamesNoOrder (rows_of (found_of matches.now)) }
     ensures named { IfSome result (NamesIn (codes "play") (rows_of (found_of matches.now))) }
     ensures nothing { IfNone result ((asked : Asked) → ¬ NamesIn (codes "play") (rows_of (found_of matches.now)) asked) }
 {
-    Some(Asked::PlayInOrder(OrderedPlay {
+    let Ok(seed) = seed_in(seed) else {
+        return None;
+    };
+    Some(Asked::Run(Run {
+        by: By::Serial,
         scenario: text_of(matches, "scenario")?,
         steps: text_of(matches, "steps"),
-        seed: Some(seed_of(seed)?),
+        seed,
         kept,
         log: text_of(matches, "log"),
         cert: text_of(matches, "cert"),
     }))
 }
 
-// What they ask for where they have none, but a file for the steps that are made.
-#[tactic(auto, using(crate::proofs::Seeds::unseeded))]
-fn recorded_play<'a>(matches: &ArgMatches<'a>, kept: &'a str) -> Option<Asked<'a>>
-    requires seed { first_of (codes "seed") (rows_of (found_of matches.now)) ≡ None }
-    requires kept { first_of (codes "record") (rows_of (found_of matches.now)) ≡ Some kept.now }
-    ensures named { IfSome result (NamesIn (codes "play") (rows_of (found_of matches.now))) }
-    ensures nothing { IfNone result ((asked : Asked) → ¬ NamesIn (codes "play") (rows_of (found_of matches.now)) asked) }
+// The number of 64 bits that a text spells, where one is given.
+fn seed_in(text: Option<&str>) -> Result<Option<u64>, NotANumber>
+    ensures number { IfOk result (SpellsSeed (option_map (λ s. s.now) text.entry)) }
+    ensures none { IfErr result (λ _. (seed : Option ℕ) → ¬ SpellsSeed (option_map (λ s. s.now) text.entry) seed) }
 {
-    Some(Asked::PlayInOrder(OrderedPlay {
-        scenario: text_of(matches, "scenario")?,
-        steps: text_of(matches, "steps"),
-        seed: None,
-        kept: Some(kept),
-        log: text_of(matches, "log"),
-        cert: text_of(matches, "cert"),
-    }))
+    let Some(text) = text else {
+        return Ok(None);
+    };
+    match seed_of(text) {
+        Some(seed) => Ok(Some(seed)),
+        None => Err(NotANumber),
+    }
 }
 
 // What they ask for where they have neither.
@@ -532,37 +554,25 @@ fn asked_of_live<'a>(matches: &ArgMatches<'a>) -> Option<Asked<'a>>
     ensures named { IfSome result (NamesIn (codes "live") (rows_of (found_of matches.now))) }
     ensures nothing { IfNone result ((asked : Asked) → ¬ NamesIn (codes "live") (rows_of (found_of matches.now)) asked) }
 {
+    let scenario = text_of(matches, "scenario")?;
+    let log = text_of(matches, "log");
+    let cert = text_of(matches, "cert");
     match text_of(matches, "record") {
-        None => plain_live(matches),
-        Some(kept) => recorded_live(matches, kept),
+        None => Some(Asked::Live {
+            scenario,
+            log,
+            cert,
+        }),
+        Some(kept) => Some(Asked::Run(Run {
+            by: By::Threads,
+            scenario,
+            steps: None,
+            seed: None,
+            kept: Some(kept),
+            log,
+            cert,
+        })),
     }
-}
-
-// What the matches of `live` ask for where they have a file for the steps that are made.
-fn recorded_live<'a>(matches: &ArgMatches<'a>, kept: &'a str) -> Option<Asked<'a>>
-    requires { first_of (codes "record") (rows_of (found_of matches.now)) ≡ Some kept.now }
-    ensures named { IfSome result (NamesIn (codes "live") (rows_of (found_of matches.now))) }
-    ensures nothing { IfNone result ((asked : Asked) → ¬ NamesIn (codes "live") (rows_of (found_of matches.now)) asked) }
-{
-    Some(Asked::LiveRecorded(RecordedLive {
-        scenario: text_of(matches, "scenario")?,
-        kept,
-        log: text_of(matches, "log"),
-        cert: text_of(matches, "cert"),
-    }))
-}
-
-// What they ask for where they have none.
-fn plain_live<'a>(matches: &ArgMatches<'a>) -> Option<Asked<'a>>
-    requires { first_of (codes "record") (rows_of (found_of matches.now)) ≡ None }
-    ensures named { IfSome result (NamesIn (codes "live") (rows_of (found_of matches.now))) }
-    ensures nothing { IfNone result ((asked : Asked) → ¬ NamesIn (codes "live") (rows_of (found_of matches.now)) asked) }
-{
-    Some(Asked::Live {
-        scenario: text_of(matches, "scenario")?,
-        log: text_of(matches, "log"),
-        cert: text_of(matches, "cert"),
-    })
 }
 
 // What the matches of `check` ask for.
@@ -590,7 +600,7 @@ fn asked_of_certify<'a>(matches: &ArgMatches<'a>) -> Option<Asked<'a>>
     })
 }
 
-// What is given is no number below 2^32.
+// What is given is no number, or one that is too great.
 #[derive(Clone, Copy)]
 struct NotANumber;
 
@@ -665,21 +675,21 @@ fn nothing_asked(alloc: Global) -> Result<Error, AllocError>
 }
 
 // What is asked for, where its names lose nothing.
-fn apart<'a>(asked: Asked<'a>) -> Result<Asked<'a>, AskFault>
+fn apart<'a>(asked: Asked<'a>) -> Result<Asked<'a>, AskFault<'a>>
     ensures same { IfOk result (λ given. given ≡ asked.entry) }
     ensures apart { IfOk result IsApart }
-    ensures fault { IfErr result (λ fault. fault ≡ SameName) }
+    ensures fault { IfErr result IsOfName }
     ensures refused { IfErr result (λ fault. ¬ IsApart asked.entry) }
 {
     if asked.clash() {
-        return Err(AskFault::SameName);
+        return Err(AskFault::SameName(asked.name_twice()));
     }
     Ok(asked)
 }
 
 /// What the words ask for.
 #[tactic(auto)]
-pub fn asked<'a>(alloc: Global, words: &'a Words) -> Result<Asked<'a>, AskFault>
+pub fn asked<'a>(alloc: Global, words: &'a Words) -> Result<Asked<'a>, AskFault<'a>>
     // What it names is what clap's definition of the command line gives for the words.
     ensures named { IfOk result (NamesAsked (subcommand_of program words.entry.now)) }
     // None of its outputs has the name of an input or of another output, but for devices.

@@ -9,14 +9,22 @@ ghost use Rattle.kt_chain.specs.Texts as certs;
 ghost use Rattle.kt_checker.specs.declared.verdict.Verdict.{Verdict};
 ghost use Rattle.kt_checker.specs.Streamed.{IsAnswerOf};
 ghost use Rattle.kt_program.specs.declared.fault.AppFault.TheVariants as app;
-ghost use Rattle.kt_program.specs.Stored.{IsExact, IsVerdictOf, IsRefusal, SayCertificates, is_yes, verdict_line, of_cert, of_log, records_told};
+ghost use Rattle.kt_program.specs.Ending.{IsOfJudging, LeavesAnswer};
+ghost use Rattle.kt_program.specs.Stored.{IsExact, JudgesFiles, IsVerdictOf, IsRefusal, SayCertificates, is_yes, verdict_line, of_cert, of_log, records_told};
 
-use crate::fault::AppFault;
-use kt_chain::{CertTextFault, Certificate, read_certs};
-use kt_checker::{Verdict, check_stream};
-use kt_log_text::LogFault;
+use crate::fault::{AppFailure, AppFault, Failure, ProgramFault};
+use crate::files::number_of;
+use crate::inputs::{Input, open_input};
+use crate::outputs::refuse_read_output;
+use crate::told::Told;
+use csv::{ByteRecord, Reader};
+use kt_chain::{CertTextFault, Certificate, read_certs_in};
+use kt_checker::{Verdict, check_rows};
+use kt_log_text::{LogFault, RowReader};
+use kt_text::records::read_records;
 use std::alloc::Global;
 use std::io::{Read, Write};
+use std::rt::Files;
 
 /// Judges a stored log with its certificates and writes the one line of the answer; true for a yes.
 ///
@@ -38,67 +46,128 @@ pub fn check_bytes<L: Read + Drop, C: Read + Drop, W: Write>(
     ensures fault { IfErr result (IsRefusal (L.remaining log_reader) (C.remaining cert_reader)) }
     ensures unwritten { IfErr result (λ e. e ≢ app.Write → W.contents writer.new ≡ W.contents writer.old) }
 {
-    let verdict = judge_texts(alloc, log_reader, cert_reader)?;
-    write_line(writer, &verdict)?;
-    Ok(is_yes(&verdict))
+    let log = Input::new(log_reader, "");
+    let cert = Input::new(cert_reader, "");
+    match judge_texts(alloc, log, cert) {
+        Ok(verdict) => answer(writer, &verdict),
+        Err(failure) => Err(failure.fault),
+    }
 }
 
-// The answer to what the readers tell.
+// Writes the line of an answer; true for a yes.
+fn answer<W: Write>(writer: &mut W, verdict: &Verdict) -> Result<bool, AppFault>
+    ensures passed { IfOk result (λ passed. passed ≡ is_yes verdict.now) }
+    ensures written { OnOk result (Appends (W.contents writer.old) (W.contents writer.new) (verdict_line verdict.now)) }
+    ensures fault { IfErr result (λ e. e ≡ app.Write) }
+{
+    write_line(writer, verdict)?;
+    Ok(is_yes(verdict))
+}
+
+// The answer to what the inputs tell.
 fn judge_texts<L: Read + Drop, C: Read + Drop>(
     alloc: Global,
-    log_reader: L,
-    cert_reader: C,
-) -> Result<Verdict, AppFault>
-    ensures answer { IfOk result (IsVerdictOf (L.remaining log_reader) (C.remaining cert_reader)) }
-    ensures fault { IfErr result (λ e. (e ≢ app.Write)
-        × IsRefusal (L.remaining log_reader) (C.remaining cert_reader) e) }
+    log: Input<L>,
+    cert: Input<C>,
+) -> Result<Verdict, AppFailure>
+    ensures answer { IfOk result (IsVerdictOf (L.remaining log.source) (C.remaining cert.source)) }
+    ensures fault { IfErr result (λ failure. (failure.fault ≢ app.Write)
+        × IsRefusal (L.remaining log.source) (C.remaining cert.source) failure.fault) }
 {
-    let certificates = read_certificates(alloc, cert_reader);
-    if let Err(AppFault::Memory) = certificates {
-        return Err(AppFault::Memory);
-    }
+    let certificates = read_certificates(alloc, cert);
     match certificates {
-        Ok(certificates) => judge_log(alloc, log_reader, certificates.as_slice()),
-        Err(fault) => {
-            judge_log(alloc, log_reader, &[])?;
-            Err(fault)
+        Ok(certificates) => judge_log(alloc, log, certificates.as_slice()),
+        Err(failure) => {
+            if let AppFault::Memory = failure.fault {
+                return Err(failure);
+            }
+            judge_log(alloc, log, &[])?;
+            Err(failure)
         }
     }
 }
 
-// The answer to the log that the reader tells.
+// The answer to the log that an input tells.
 fn judge_log<L: Read + Drop>(
     alloc: Global,
-    reader: L,
+    log: Input<L>,
     certificates: &[Certificate],
-) -> Result<Verdict, AppFault>
-    ensures answer { IfOk result (IsAnswerOf (L.remaining reader) certificates.now) }
-    ensures fault { IfErr result (λ e. (f : LogFault) × (e ≡ of_log f)
-        × IfSome (records_told (L.remaining reader)) (λ text. rows.IsFirstLogFault text f)) }
+) -> Result<Verdict, AppFailure>
+    ensures answer { IfOk result (IsAnswerOf (L.remaining log.source) certificates.now) }
+    ensures fault { IfErr result (λ failure. (f : LogFault) × (failure.fault ≡ of_log f)
+        × IfSome (records_told (L.remaining log.source)) (λ text. rows.IsFirstLogFault text f)) }
 {
-    match check_stream(alloc, reader, certificates) {
+    let mut rows = RowReader::new(alloc, log)?;
+    match check_rows(alloc, &mut rows, certificates) {
         Ok(verdict) => Ok(verdict),
-        Err(fault) => Err(log_fault(fault)),
+        Err(fault) => Err(log_failure(&rows, fault)),
     }
 }
 
-/// The certificates that the reader tells.
+/// A fault of the log that a reader of rows tells.
+pub(crate) fn log_failure<L: Read + Drop>(rows: &RowReader<Input<L>>, fault: LogFault) -> AppFailure
+    ensures { result.fault ≡ of_log fault }
+{
+    let told = told_of_log(rows, &fault);
+    AppFailure {
+        fault: log_fault(fault),
+        told,
+    }
+}
+
+/// What is told of a fault of a log: the record at which it was met, or why that could not be read.
+pub(crate) fn told_of_log<L: Read + Drop>(rows: &RowReader<Input<L>>, fault: &LogFault) -> Told {
+    let row = match fault {
+        LogFault::Read => return rows.source().told(),
+        LogFault::Memory => return Told::Nothing,
+        LogFault::Fields(row) | LogFault::Word(row) | LogFault::Number(row) => row.get(),
+        LogFault::TooLong | LogFault::Version => 1,
+    };
+    match rows.record() {
+        Some(record) => Told::row(rows.source().name, &record, row),
+        None => Told::Nothing,
+    }
+}
+
+/// The certificates that an input tells.
 pub(crate) fn read_certificates<C: Read + Drop>(
     alloc: Global,
-    reader: C,
-) -> Result<Vec<Certificate>, AppFault>
-    ensures certificates { IfOk result (λ certificates. SayCertificates (C.remaining reader) certificates.items) }
-    ensures fault { IfErr result (λ e. (f : CertTextFault) × (e ≡ of_cert f)
-        × IfSome (records_told (C.remaining reader)) (λ text. certs.IsFirstCertificateFault text f)) }
+    cert: Input<C>,
+) -> Result<Vec<Certificate>, AppFailure>
+    ensures certificates { IfOk result (λ certificates. SayCertificates (C.remaining cert.source) certificates.items) }
+    ensures fault { IfErr result (λ failure. (f : CertTextFault) × (failure.fault ≡ of_cert f)
+        × IfSome (records_told (C.remaining cert.source)) (λ text. certs.IsFirstCertificateFault text f)) }
 {
-    match read_certs(alloc, reader) {
+    let mut records = read_records(alloc, cert)?;
+    let mut current = ByteRecord::new(alloc);
+    match read_certs_in(alloc, &mut records, &mut current) {
         Ok(certificates) => Ok(certificates),
-        Err(fault) => Err(certificates_fault(fault)),
+        Err(fault) => {
+            let told = told_of_certificates(&records, &current, &fault);
+            Err(AppFailure {
+                fault: certificates_fault(fault),
+                told,
+            })
+        }
     }
 }
 
-/// A fault of a log; its want of memory is the program's own.
-pub(crate) fn log_fault(fault: LogFault) -> AppFault
+// What is told of a fault of certificates: the record at which it was met, or why that could not be read.
+fn told_of_certificates<C: Read>(
+    records: &Reader<Input<C>>,
+    current: &ByteRecord,
+    fault: &CertTextFault,
+) -> Told {
+    let input = records.get_ref();
+    match fault {
+        CertTextFault::Read => input.told(),
+        CertTextFault::Memory => Told::Nothing,
+        _ => Told::record(input.name, current, records.position(), u32::MAX),
+    }
+}
+
+// A fault of a log; its want of memory is the program's own.
+fn log_fault(fault: LogFault) -> AppFault
     ensures { result ≡ of_log fault }
 {
     match fault {
@@ -138,4 +207,31 @@ fn write_line<W: Write>(writer: &mut W, verdict: &Verdict) -> Result<(), AppFaul
         Ok(()) => Ok(()),
         Err(_) => Err(AppFault::Write),
     }
+}
+
+/// Judges the log and the certificates in these files; true for a yes.
+#[inline(never)]
+pub(crate) fn check_files<'a, F: Files, O: Write>(
+    files: &F,
+    alloc: Global,
+    log: &'a str,
+    cert: &'a str,
+    out: &mut O,
+) -> Result<bool, Failure>
+    ensures answer { LeavesAnswer result (O.contents out.old) (O.contents out.new) }
+    ensures fault { IfErr result (λ failure. IsOfJudging failure.fault) }
+    // The line is that of the checker's answer to the bytes of two files.
+    ensures judged { IfOk result (JudgesFiles F.File.remaining (O.contents out.old) (O.contents out.new)) }
+{
+    let read = [Some(log), Some(cert), None];
+    let log = open_input(files, log, ProgramFault::App(AppFault::Log(LogFault::Read)))?;
+    let cert = open_input(
+        files,
+        cert,
+        ProgramFault::App(AppFault::Cert(CertTextFault::Read)),
+    )?;
+    let numbers = [number_of(&log.source), number_of(&cert.source)];
+    refuse_read_output(files, &numbers, read)?;
+    let verdict = judge_texts(alloc, log, cert)?;
+    Ok(answer(out, &verdict)?)
 }

@@ -7,14 +7,16 @@ ghost use Rattle.kt_program.specs.declared.fault.AppFault.TheVariants as app;
 ghost use Rattle.kt_program.specs.declared.fault.ProgramFault.TheVariants as program;
 ghost use Rattle.kt_program.specs.Drawn.{AreNamesOf, DrawsTo, IsOfDrawing, IsOfNames, IsPictureOfFile, IsPictureWith, LeavesDrawn, TextGoesTo};
 ghost use Rattle.kt_program.specs.Files.{AreOthers};
-ghost use Rattle.kt_program.specs.Names.{IsNaming};
+ghost use Rattle.kt_program.specs.Names.{Name};
 ghost use Rattle.kt_program.specs.Outputs.{contents_of, files_of};
 
 use crate::drawn::{draw_log, draw_run, write_picture};
 use crate::ending::Done;
-use crate::fault::{AppFault, ProgramFault};
+use crate::fault::{AppFault, Failure, ProgramFault};
 use crate::files::{FileNumber, ReadFrom, number_of};
+use crate::inputs::{Input, open_input};
 use crate::line::Drawing;
+use crate::names::is_standard;
 use crate::outputs::{Outputs, Targets, outputs_of};
 use crate::running::scenario_in;
 use kt_chain::CertTextFault;
@@ -22,7 +24,6 @@ use kt_draw::Span;
 use kt_log_text::LogFault;
 use kt_plan::Names;
 use std::alloc::Global;
-use std::fs;
 use std::fs::OpenFile;
 use std::io::Write;
 use std::rt::Files;
@@ -37,15 +38,14 @@ pub(crate) fn draw_files<F: Files, O: Write>(
     alloc: Global,
     asked: &Drawing<'_>,
     out: &mut O,
-) -> Result<Done, ProgramFault>
+) -> Result<Done, Failure>
     ensures done { IfOk result (λ what. what ≡ Drawn) }
     ensures drawn { OnOk result (DrawsTo F.File.remaining asked.now (O.contents out.old) (O.contents out.new)) }
-    ensures fault { IfErr result (IsOfDrawing asked.now.names) }
+    ensures fault { IfErr result (λ failure. IsOfDrawing asked.now.names failure.fault) }
     ensures output { LeavesDrawn result (O.contents out.old) (O.contents out.new) }
-    ensures named { IfErr result (λ fault. fault ≡ program.SameFile → IsNaming None None None asked.now.svg) }
 {
     let picture = picture_in(files, alloc, asked)?;
-    write_to(files, &picture, asked.svg, out)?;
+    write_to(files, &picture, asked, out)?;
     Ok(Done::Drawn)
 }
 
@@ -57,20 +57,18 @@ struct Picture {
 }
 
 // The picture that is asked for.
-fn picture_in<F: Files>(
-    files: &F,
-    alloc: Global,
-    asked: &Drawing<'_>,
-) -> Result<Picture, ProgramFault>
+fn picture_in<F: Files>(files: &F, alloc: Global, asked: &Drawing<'_>) -> Result<Picture, Failure>
     ensures picture { IfOk result (λ picture. IsPictureOfFile F.File.remaining asked.now.names asked.now.cert asked.now.span
         picture.text.items) }
-    ensures fault { IfErr result (IsOfNames asked.now.names) }
+    ensures fault { IfErr result (λ failure. IsOfNames asked.now.names failure.fault) }
 {
     let names = names_in(files, alloc, asked.names)?;
-    let Ok(log) = fs::open(files, asked.log) else {
-        return Err(ProgramFault::App(AppFault::Log(LogFault::Read)));
-    };
-    let number = number_of(&log);
+    let log = open_input(
+        files,
+        asked.log,
+        ProgramFault::App(AppFault::Log(LogFault::Read)),
+    )?;
+    let number = number_of(&log.source);
     let drawn = drawn_with(files, alloc, log, asked.cert, &names.value, asked.span)?;
     Ok(Picture {
         text: drawn.value,
@@ -82,13 +80,14 @@ fn picture_in<F: Files>(
 fn drawn_with<F: Files>(
     files: &F,
     alloc: Global,
-    log: F::File,
+    log: Input<F::File>,
     cert: Option<&str>,
     names: &Names,
     span: Span,
-) -> Result<ReadFrom<Vec<u8>>, AppFault>
-    ensures { IfOk result (λ read. IsPictureWith F.File.remaining cert.entry names.now span
-        (F.File.remaining log) read.value.items) }
+) -> Result<ReadFrom<Vec<u8>>, Failure>
+    ensures picture { IfOk result (λ read. IsPictureWith F.File.remaining cert.entry names.now span
+        (F.File.remaining log.source) read.value.items) }
+    ensures fault { (name : Name) → IfErr result (λ failure. IsOfNames name failure.fault) }
 {
     let Some(cert) = cert else {
         return Ok(ReadFrom {
@@ -96,13 +95,14 @@ fn drawn_with<F: Files>(
             file: None,
         });
     };
-    let Ok(cert) = fs::open(files, cert) else {
-        return Err(AppFault::Cert(CertTextFault::Read));
-    };
-    let number = number_of(&cert);
+    let cert = open_input(
+        files,
+        cert,
+        ProgramFault::App(AppFault::Cert(CertTextFault::Read)),
+    )?;
     Ok(ReadFrom {
+        file: number_of(&cert.source),
         value: draw_run(alloc, log, cert, names, span)?,
-        file: number,
     })
 }
 
@@ -111,9 +111,9 @@ fn names_in<F: Files>(
     files: &F,
     alloc: Global,
     scenario: Option<&str>,
-) -> Result<ReadFrom<Names>, ProgramFault>
+) -> Result<ReadFrom<Names>, Failure>
     ensures names { IfOk result (λ read. AreNamesOf F.File.remaining scenario.entry read.value) }
-    ensures fault { IfErr result (IsOfNames scenario.entry) }
+    ensures fault { IfErr result (λ failure. IsOfNames scenario.entry failure.fault) }
 {
     let Some(scenario) = scenario else {
         return Ok(ReadFrom {
@@ -132,32 +132,28 @@ fn names_in<F: Files>(
 fn write_to<F: Files, O: Write>(
     files: &F,
     picture: &Picture,
-    svg: Option<&str>,
+    asked: &Drawing<'_>,
     out: &mut O,
-) -> Result<(), ProgramFault>
-    ensures output { OnOk result (TextGoesTo svg.entry picture.now.text.items (O.contents out.old) (O.contents out.new)) }
-    ensures fault { IfErr result (λ fault. (fault ≡ program.SameFile) ⊎ (fault ≡ program.App app.Write)) }
-    ensures kept { IfErr result (λ fault. fault ≢ program.App app.Write → O.contents out.new ≡ O.contents out.old) }
-    ensures named { IfErr result (λ fault. fault ≡ program.SameFile → IsNaming None None None svg.entry) }
+) -> Result<(), Failure>
+    ensures output { OnOk result (TextGoesTo asked.now.svg picture.now.text.items (O.contents out.old) (O.contents out.new)) }
+    ensures fault { IfErr result (λ failure. (failure.fault ≡ program.SameFile)
+        ⊎ (failure.fault ≡ program.App app.Write)) }
+    ensures kept { IfErr result (λ failure. failure.fault ≢ program.App app.Write → O.contents out.new ≡ O.contents out.old) }
 {
-    let Some(svg) = svg else {
-        write_picture(picture.text.as_slice(), out)?;
-        return Ok(());
-    };
-    write_in(files, picture, svg)
-}
-
-// Writes a picture into the file that is named for it.
-fn write_in<F: Files>(files: &F, picture: &Picture, svg: &str) -> Result<(), ProgramFault>
-    ensures fault { IfErr result (λ fault. (fault ≡ program.SameFile) ⊎ (fault ≡ program.App app.Write)) }
-{
+    let is_printed = is_standard(asked.svg);
     let targets = Targets {
+        read: [asked.names, Some(asked.log), asked.cert],
+        prints: is_printed,
         log: None,
         cert: None,
         kept: None,
-        svg: Some(svg),
+        svg: if is_printed { None } else { asked.svg },
     };
     let mut outputs = outputs_of(files, &picture.files, &targets)?;
+    if is_printed {
+        write_picture(picture.text.as_slice(), out)?;
+        return Ok(());
+    }
     write_into(picture, &mut outputs)
 }
 
@@ -165,13 +161,18 @@ fn write_in<F: Files>(files: &F, picture: &Picture, svg: &str) -> Result<(), Pro
 fn write_into<W: Write + OpenFile>(
     picture: &Picture,
     outputs: &mut Outputs<W>,
-) -> Result<(), ProgramFault>
+) -> Result<(), Failure>
     requires { AreOthers picture.now.files (files_of outputs.old) }
     ensures written { OnOk result (Appends (contents_of W.contents outputs.old.svg.output)
         (contents_of W.contents outputs.new.svg.output) picture.now.text.items) }
-    ensures fault { IfErr result (λ fault. fault ≡ program.App app.Write) }
+    ensures fault { IfErr result (λ failure. failure.fault ≡ program.App app.Write) }
 {
     outputs.empty(&picture.files)?;
-    write_picture(picture.text.as_slice(), &mut outputs.svg.output)?;
-    Ok(())
+    match write_picture(picture.text.as_slice(), &mut outputs.svg.output) {
+        Ok(()) => Ok(()),
+        Err(fault) => Err(Failure {
+            fault: ProgramFault::App(fault),
+            told: outputs.told(),
+        }),
+    }
 }

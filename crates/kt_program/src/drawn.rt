@@ -6,9 +6,13 @@ ghost use Rattle.kt_draw.specs.Drawn.{IsPictureOf};
 ghost use Rattle.kt_program.specs.declared.fault.AppFault.TheVariants as app;
 ghost use Rattle.kt_program.specs.Drawn.{Draws, DrawsCertified, IsCertifiedPictureOf, IsUndrawn, IsUndrawnRun};
 
+use crate::checked::told_of_log;
 use crate::explained::{StoredRun, read_stored};
-use crate::fault::AppFault;
-use kt_draw::{Span, draw_certified, draw_stream};
+use crate::fault::{AppFailure, AppFault};
+use crate::inputs::Input;
+use crate::told::Told;
+use kt_draw::{DrawFault, Span, draw_certified, draw_rows};
+use kt_log_text::RowReader;
 use kt_plan::Names;
 use kt_text::pieces::write_whole;
 use std::alloc::Global;
@@ -33,8 +37,11 @@ pub fn draw_bytes<L: Read + Drop, W: Write>(
     ensures fault { IfErr result (λ e. e ≢ app.Write → IsUndrawn span (L.remaining log_reader) e) }
     ensures unwritten { IfErr result (λ e. e ≢ app.Write → W.contents writer.new ≡ W.contents writer.old) }
 {
-    let text = draw_log(alloc, log_reader, names, span)?;
-    write_picture(text.as_slice(), writer)
+    let log = Input::new(log_reader, "");
+    match draw_log(alloc, log, names, span) {
+        Ok(text) => write_picture(text.as_slice(), writer),
+        Err(failure) => Err(failure.fault),
+    }
 }
 
 /// Draws rows of a stored log as `draw_bytes` does, with what its certificates tell: the messages of their chains in the
@@ -56,27 +63,32 @@ pub fn draw_certified_bytes<L: Read + Drop, C: Read + Drop, W: Write>(
         → IsUndrawnRun span (L.remaining log_reader) (C.remaining cert_reader) e) }
     ensures unwritten { IfErr result (λ e. e ≢ app.Write → W.contents writer.new ≡ W.contents writer.old) }
 {
-    let text = draw_run(alloc, log_reader, cert_reader, names, span)?;
-    write_picture(text.as_slice(), writer)
+    let log = Input::new(log_reader, "");
+    let cert = Input::new(cert_reader, "");
+    match draw_run(alloc, log, cert, names, span) {
+        Ok(text) => write_picture(text.as_slice(), writer),
+        Err(failure) => Err(failure.fault),
+    }
 }
 
-/// The picture of rows of the log that a reader tells, with the certificates that another one tells.
+/// The picture of rows of the log that an input tells, with the certificates that another one tells.
 #[tactic(auto, using(crate::proofs::Pictures::unread_run, crate::proofs::Pictures::undrawn_run))]
 pub(crate) fn draw_run<L: Read + Drop, C: Read + Drop>(
     alloc: Global,
-    log_reader: L,
-    cert_reader: C,
+    log: Input<L>,
+    cert: Input<C>,
     names: &Names,
     span: Span,
-) -> Result<Vec<u8>, AppFault>
+) -> Result<Vec<u8>, AppFailure>
     ensures picture { IfOk result (λ text. IsCertifiedPictureOf names.now span
-        (L.remaining log_reader) (C.remaining cert_reader) text.items) }
-    ensures fault { IfErr result (IsUndrawnRun span (L.remaining log_reader) (C.remaining cert_reader)) }
+        (L.remaining log.source) (C.remaining cert.source) text.items) }
+    ensures fault { IfErr result (λ failure. IsUndrawnRun span
+        (L.remaining log.source) (C.remaining cert.source) failure.fault) }
 {
-    let StoredRun { log, certificates } = read_stored(alloc, log_reader, cert_reader)?;
+    let StoredRun { log, certificates } = read_stored(alloc, log, cert)?;
     match draw_certified(alloc, &log, certificates.as_slice(), names, span) {
         Ok(text) => Ok(text),
-        Err(fault) => Err(AppFault::from(fault)),
+        Err(fault) => Err(AppFailure::from(AppFault::from(fault))),
     }
 }
 
@@ -91,19 +103,34 @@ pub(crate) fn write_picture<W: Write>(text: &[u8], writer: &mut W) -> Result<(),
     }
 }
 
-/// The picture of rows of the log that a reader tells.
+/// The picture of rows of the log that an input tells.
 #[tactic(auto, using(crate::proofs::Pictures::undrawn))]
 pub(crate) fn draw_log<L: Read + Drop>(
     alloc: Global,
-    reader: L,
+    log: Input<L>,
     names: &Names,
     span: Span,
-) -> Result<Vec<u8>, AppFault>
-    ensures picture { IfOk result (λ text. IsPictureOf names.now span (L.remaining reader) text.items) }
-    ensures fault { IfErr result (IsUndrawn span (L.remaining reader)) }
+) -> Result<Vec<u8>, AppFailure>
+    ensures picture { IfOk result (λ text. IsPictureOf names.now span (L.remaining log.source) text.items) }
+    ensures fault { IfErr result (λ failure. IsUndrawn span (L.remaining log.source) failure.fault) }
 {
-    match draw_stream(alloc, reader, names, span) {
+    let mut rows = RowReader::new(alloc, log)?;
+    match draw_rows(alloc, &mut rows, names, span) {
         Ok(text) => Ok(text),
-        Err(fault) => Err(AppFault::from(fault)),
+        Err(fault) => {
+            let told = told_of(&rows, &fault);
+            Err(AppFailure {
+                fault: AppFault::from(fault),
+                told,
+            })
+        }
+    }
+}
+
+// What is told of a log of which there is no such picture.
+fn told_of<L: Read + Drop>(rows: &RowReader<Input<L>>, fault: &DrawFault) -> Told {
+    match fault {
+        DrawFault::Log(fault) => told_of_log(rows, fault),
+        DrawFault::Picture(_) => Told::Nothing,
     }
 }

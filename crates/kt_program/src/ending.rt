@@ -3,10 +3,10 @@
 ghost use Rattle.std.specs.Prelude.{◌≡◌, OnOk, OnErr, IfSome};
 ghost use Rattle.std.specs.Io.KnownBytes.{Appends};
 ghost use Rattle.kt_text.specs.Writing.{WritesFront};
-ghost use Rattle.kt_program.specs.Status.{answer_status, done_status, status_of};
+ghost use Rattle.kt_program.specs.Status.{answer_status, done_status, ended_status, status_of};
 ghost use Rattle.kt_program.specs.Faults.{fault_line};
 
-use crate::fault::ProgramFault;
+use crate::fault::{Failure, ProgramFault};
 use arrayvec::ArrayString;
 use kt_text::WriteFault;
 use kt_text::pieces::write_whole;
@@ -58,7 +58,7 @@ pub fn end<E: Write>(outcome: Result<Done, ProgramFault>, err: &mut E) -> u8
     ensures quiet { OnOk outcome (E.contents err.new ≡ E.contents err.old) }
 {
     match outcome {
-        Ok(done) => done.status(),
+        Ok(what) => what.status(),
         Err(fault) => {
             let status = fault.status();
             report_fault(&fault, err);
@@ -67,9 +67,31 @@ pub fn end<E: Write>(outcome: Result<Done, ProgramFault>, err: &mut E) -> u8
     }
 }
 
-/// Writes the line of a fault; true where all of it was written.
-pub(crate) fn report_fault<E: Write>(fault: &ProgramFault, err: &mut E) -> bool {
+/// Ends the program as `end` does, and writes below the line of a fault what is told of it, where that is asked.
+pub(crate) fn end_told<E: Write>(asked: bool, outcome: Result<Done, Failure>, err: &mut E) -> u8
+    ensures status { result ≡ ended_status outcome }
+    ensures quiet { OnOk outcome (E.contents err.new ≡ E.contents err.old) }
+{
+    match outcome {
+        Ok(done) => done.status(),
+        Err(failure) => {
+            if report_fault(&failure.fault, err) && asked {
+                report_told(&failure, err);
+            }
+            failure.fault.status()
+        }
+    }
+}
+
+// Writes the line of a fault; true where all of it was written.
+fn report_fault<E: Write>(fault: &ProgramFault, err: &mut E) -> bool {
     write_fault(err, fault).is_ok()
+}
+
+// Writes what is told of a fault.
+fn report_told<E: Write>(failure: &Failure, err: &mut E) {
+    let _ = write!(err, "{failure}");
+    let _ = err.flush();
 }
 
 /// Writes the line of a fault: the program's name, the fault's words and a line feed. At a fault of the writer a front part of

@@ -8,18 +8,21 @@ ghost use Rattle.kt_checker.specs.declared.verdict.Verdict.{Verdict as Verdicts}
 ghost use Rattle.kt_checker.specs.Streamed.{SaysRows};
 ghost use Rattle.kt_explain.specs.declared.explanation.Explanation.{Explanation as Explanations};
 ghost use Rattle.kt_program.specs.declared.fault.AppFault.TheVariants as app;
-ghost use Rattle.kt_program.specs.Explained.{IsExplained, IsExplainedOf, LeavesExplained, Say, explained_text};
+ghost use Rattle.kt_program.specs.Ending.{IsOfJudging};
+ghost use Rattle.kt_program.specs.Explained.{ExplainsFiles, IsExplained, IsExplainedOf, LeavesExplained, Say, explained_text};
 ghost use Rattle.kt_program.specs.Stored.{IsRefusal, is_yes, of_log, records_told};
 
-use crate::checked::{is_yes, log_fault, read_certificates};
-use crate::fault::AppFault;
+use crate::checked::{is_yes, log_failure, read_certificates};
+use crate::fault::{AppFailure, AppFault, Failure, ProgramFault};
+use crate::files::number_of;
+use crate::inputs::{Input, open_input};
+use crate::outputs::refuse_read_output;
 use kt_chain::{CertTextFault, Certificate};
 use kt_checker::{Verdict, check};
 use kt_explain::{Told, explain};
-use kt_log_text::{LogFault, read_csv};
+use kt_log_text::{LogFault, RowReader, read_rows};
 use kt_spacetime::SpaceTime;
 use std::alloc::Global;
-use std::fs;
 use std::io::{Read, Write};
 use std::rt::Files;
 
@@ -49,41 +52,51 @@ pub fn explain_bytes<L: Read + Drop, C: Read + Drop, W: Write>(
         → IsRefusal (L.remaining log_reader) (C.remaining cert_reader) e) }
     ensures unwritten { IfErr result (λ e. e ≢ app.Write → W.contents writer.new ≡ W.contents writer.old) }
 {
-    let StoredRun { log, certificates } = read_stored(alloc, log_reader, cert_reader)?;
-    judge(alloc, &log, certificates.as_slice(), writer)
+    let log = Input::new(log_reader, "");
+    let cert = Input::new(cert_reader, "");
+    match read_stored(alloc, log, cert) {
+        Ok(run) => judge(alloc, &run.log, run.certificates.as_slice(), writer),
+        Err(failure) => Err(failure.fault),
+    }
 }
 
-/// The log and the certificates that the readers tell.
+/// The log and the certificates that the inputs tell.
 pub(crate) fn read_stored<L: Read + Drop, C: Read + Drop>(
     alloc: Global,
-    log_reader: L,
-    cert_reader: C,
-) -> Result<StoredRun, AppFault>
-    ensures read { IfOk result (λ stored. Say (L.remaining log_reader) (C.remaining cert_reader)
+    log: Input<L>,
+    cert: Input<C>,
+) -> Result<StoredRun, AppFailure>
+    ensures read { IfOk result (λ stored. Say (L.remaining log.source) (C.remaining cert.source)
         stored.log.rows stored.certificates.items) }
-    ensures fault { IfErr result (λ e. (e ≢ app.Write)
-        × IsRefusal (L.remaining log_reader) (C.remaining cert_reader) e) }
+    ensures fault { IfErr result (λ failure. (failure.fault ≢ app.Write)
+        × IsRefusal (L.remaining log.source) (C.remaining cert.source) failure.fault) }
 {
-    let certificates = read_certificates(alloc, cert_reader);
-    if let Err(AppFault::Memory) = certificates {
-        return Err(AppFault::Memory);
-    }
-    let log = read_log(alloc, log_reader)?;
+    let certificates = read_certificates(alloc, cert);
     match certificates {
-        Ok(certificates) => Ok(StoredRun { log, certificates }),
-        Err(fault) => Err(fault),
+        Ok(certificates) => Ok(StoredRun {
+            log: read_log(alloc, log)?,
+            certificates,
+        }),
+        Err(failure) => {
+            if let AppFault::Memory = failure.fault {
+                return Err(failure);
+            }
+            read_log(alloc, log)?;
+            Err(failure)
+        }
     }
 }
 
-// The log that the reader tells.
-fn read_log<L: Read + Drop>(alloc: Global, reader: L) -> Result<SpaceTime, AppFault>
-    ensures read { IfOk result (λ log. SaysRows (L.remaining reader) log.rows) }
-    ensures fault { IfErr result (λ e. (f : LogFaults) × (e ≡ of_log f)
-        × IfSome (records_told (L.remaining reader)) (λ text. rows.IsFirstLogFault text f)) }
+// The log that an input tells.
+fn read_log<L: Read + Drop>(alloc: Global, log: Input<L>) -> Result<SpaceTime, AppFailure>
+    ensures read { IfOk result (λ read. SaysRows (L.remaining log.source) read.rows) }
+    ensures fault { IfErr result (λ failure. (f : LogFaults) × (failure.fault ≡ of_log f)
+        × IfSome (records_told (L.remaining log.source)) (λ text. rows.IsFirstLogFault text f)) }
 {
-    match read_csv(alloc, reader) {
-        Ok(log) => Ok(log),
-        Err(fault) => Err(log_fault(fault)),
+    let mut rows = RowReader::new(alloc, log)?;
+    match read_rows(alloc, &mut rows) {
+        Ok(read) => Ok(read),
+        Err(fault) => Err(log_failure(&rows, fault)),
     }
 }
 
@@ -133,20 +146,27 @@ fn write_answer<W: Write>(writer: &mut W, verdict: &Verdict, lines: &str) -> Res
 
 /// Judges the log and the certificates in these files, and tells of the answer; true for a yes.
 #[inline(never)]
-pub(crate) fn explain_files<F: Files, O: Write>(
+pub(crate) fn explain_files<'a, F: Files, O: Write>(
     files: &F,
     alloc: Global,
-    log: &str,
-    cert: &str,
+    log: &'a str,
+    cert: &'a str,
     out: &mut O,
-) -> Result<bool, AppFault>
-    ensures { LeavesExplained result (O.contents out.old) (O.contents out.new) }
+) -> Result<bool, Failure>
+    ensures answer { LeavesExplained result (O.contents out.old) (O.contents out.new) }
+    ensures fault { IfErr result (λ failure. IsOfJudging failure.fault) }
+    // The answer is the checker's to the bytes of two files, and what is told of it is so.
+    ensures explained { IfOk result (ExplainsFiles F.File.remaining (O.contents out.old) (O.contents out.new)) }
 {
-    let Ok(log) = fs::open(files, log) else {
-        return Err(AppFault::Log(LogFault::Read));
-    };
-    let Ok(cert) = fs::open(files, cert) else {
-        return Err(AppFault::Cert(CertTextFault::Read));
-    };
-    explain_bytes(alloc, log, cert, out)
+    let read = [Some(log), Some(cert), None];
+    let log = open_input(files, log, ProgramFault::App(AppFault::Log(LogFault::Read)))?;
+    let cert = open_input(
+        files,
+        cert,
+        ProgramFault::App(AppFault::Cert(CertTextFault::Read)),
+    )?;
+    let numbers = [number_of(&log.source), number_of(&cert.source)];
+    refuse_read_output(files, &numbers, read)?;
+    let run = read_stored(alloc, log, cert)?;
+    Ok(judge(alloc, &run.log, run.certificates.as_slice(), out)?)
 }

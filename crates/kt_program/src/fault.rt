@@ -8,6 +8,7 @@ ghost use Rattle.kt_program.specs.Certified.{of_stream};
 ghost use Rattle.kt_program.specs.Drawn.{of_draw};
 ghost use Rattle.kt_program.specs.Played.{of_cert_fault, of_live, of_run, of_writing};
 
+use crate::told::Told;
 use kt_base::Memory;
 use kt_certify::{CertFault, StreamFault, Unfit};
 use kt_chain::CertTextFault;
@@ -205,5 +206,80 @@ impl From<Memory> for ProgramFault {
 
     fn from(_fault: Memory) -> ProgramFault {
         ProgramFault::App(AppFault::Memory)
+    }
+}
+
+/// A fault, and what a person is told of it below its line.
+#[derive(Clone, Copy)]
+pub struct Failure {
+    /// Why the program did not do what it was asked.
+    pub fault: ProgramFault,
+    /// What is told of it.
+    pub told: Told,
+}
+
+impl From<ProgramFault> for Failure {
+    ghost from_gives = { λ fault f. f.fault ≡ fault };
+
+    fn from(fault: ProgramFault) -> Failure {
+        Failure {
+            fault,
+            told: Told::Nothing,
+        }
+    }
+}
+
+impl From<AppFault> for Failure {
+    ghost from_gives = { λ fault f. f.fault ≡ program.App fault };
+
+    fn from(fault: AppFault) -> Failure {
+        Failure::from(ProgramFault::App(fault))
+    }
+}
+
+impl From<Memory> for Failure {
+    ghost from_gives = { λ _ f. f.fault ≡ program.App app.Memory };
+
+    fn from(_fault: Memory) -> Failure {
+        Failure::from(ProgramFault::App(AppFault::Memory))
+    }
+}
+
+/// A fault of a stored run, and what a person is told of it.
+#[derive(Clone, Copy)]
+pub struct AppFailure {
+    /// Why the stored run was not judged, certified or drawn.
+    pub fault: AppFault,
+    /// What is told of it.
+    pub told: Told,
+}
+
+impl From<AppFault> for AppFailure {
+    ghost from_gives = { λ fault f. f.fault ≡ fault };
+
+    fn from(fault: AppFault) -> AppFailure {
+        AppFailure {
+            fault,
+            told: Told::Nothing,
+        }
+    }
+}
+
+impl From<Memory> for AppFailure {
+    ghost from_gives = { λ _ f. f.fault ≡ app.Memory };
+
+    fn from(_fault: Memory) -> AppFailure {
+        AppFailure::from(AppFault::Memory)
+    }
+}
+
+impl From<AppFailure> for Failure {
+    ghost from_gives = { λ failure f. f.fault ≡ program.App failure.fault };
+
+    fn from(failure: AppFailure) -> Failure {
+        Failure {
+            fault: ProgramFault::App(failure.fault),
+            told: failure.told,
+        }
     }
 }

@@ -3,7 +3,7 @@
 ghost use Rattle.std.specs.Prelude.{All, MatchBool};
 ghost use Rattle.kt_program.specs.Files.{AreOthers, AreTwo};
 
-use std::fs::OpenFile;
+use std::fs::{Metadata, OpenFile};
 use std::os::unix::fs::MetadataExt;
 
 /// A regular file, by its device and its number there.
@@ -22,9 +22,14 @@ pub(crate) struct ReadFrom<T> {
 
 /// Which regular file was opened. None where it is none, as a pipe, or where it is not told.
 pub(crate) fn number_of<W: OpenFile>(file: &W) -> Option<FileNumber> {
-    let Ok(metadata) = file.metadata() else {
-        return None;
-    };
+    match file.metadata() {
+        Ok(metadata) => number_of_metadata(&metadata),
+        Err(_) => None,
+    }
+}
+
+/// Which regular file is told of so.
+pub(crate) fn number_of_metadata(metadata: &Metadata) -> Option<FileNumber> {
     let number = metadata.ino();
     if number == 0 || !metadata.is_file() {
         return None;
@@ -35,8 +40,8 @@ pub(crate) fn number_of<W: OpenFile>(file: &W) -> Option<FileNumber> {
     })
 }
 
-// Whether both are told, and are one file.
-fn is_one(one: Option<FileNumber>, other: Option<FileNumber>) -> bool
+/// Whether both are told, and are one file.
+pub(crate) fn is_one(one: Option<FileNumber>, other: Option<FileNumber>) -> bool
     ensures { MatchBool result (¬ AreTwo one other) (AreTwo one other) }
 {
     match (one, other) {

@@ -1,216 +1,212 @@
-//! What is told below the line of a fault to the person who made the mistake.
+//! What is told below the line of a fault, in words.
 
-ghost use Rattle.std.specs.Prelude.{◌≡◌, ◌⊎◌, ◌↔◌, IsTrue, ◌++◌, List, ℕ, OnOk, IfOk, IfErr};
-ghost use Rattle.kt_program.specs.Hints.{AreHints, AreHintsTold, IsHintOfFile, IsHintOfWords, IsHinted, IsTriedShown, WritesHints, file_line, file_of, said_lines};
-ghost use Rattle.kt_program.specs.Status.{status_of};
+use crate::fault::{AppFault, Failure, ProgramFault};
+use crate::told::{Attempt, Told, ToldRecord};
+use kt_certify::Unfit;
+use kt_chain::CertTextFault;
+use kt_cuts::Rule;
+use kt_log_text::LogFault;
+use kt_plans::Hindrance;
+use kt_scenario::{ScenarioFault, StepsFault};
+use std::fmt;
 
-use crate::ask::{AskFault, asked};
-use crate::breaches::push_breach;
-use crate::ending::{Done, report_fault};
-use crate::fault::ProgramFault;
-use crate::line::Asked;
-use crate::places::push_place;
-use crate::reason::push_reason;
-use crate::subject::file_of;
-use crate::targets::push_written;
-use crate::tried::tried_of;
-use crate::words::Words;
-use clap::Error;
-use kt_base::Memory;
-use kt_hints::push_hint;
-use kt_text::pieces::write_whole;
-use std::alloc::Global;
-use std::io::Write;
-use std::rt::Files;
-
-/// Ends the program as `end` does, and writes below the line of a fault what is wrong, and where, if standard error is a
-/// terminal or the words ask for it.
-pub(crate) fn end_hinted<F: Files, E: Write>(
-    files: &F,
-    alloc: Global,
-    words: &Words,
-    terminal: bool,
-    outcome: Result<Done, ProgramFault>,
-    err: &mut E,
-) -> u8
-    ensures status { result ≡ status_of outcome }
-    ensures quiet { OnOk outcome (E.contents err.new ≡ E.contents err.old) }
-    ensures line { IfErr outcome (λ fault. IsHinted F.File.remaining terminal words.now fault
-        (E.contents err.old) (E.contents err.new)) }
-{
-    match outcome {
-        Ok(done) => done.status(),
-        Err(fault) => {
-            let status = fault.status();
-            report_hinted(files, alloc, words, terminal, &fault, err);
-            status
+/// Its text is the lines below the line of the fault, each begun with two spaces and ended by a line feed.
+impl fmt::Display for Failure {
+    fn fmt<W: fmt::Write>(&self, f: &mut fmt::Formatter<W>) -> fmt::Result {
+        match &self.told {
+            Told::Nothing => Ok(()),
+            Told::Words(lines) => {
+                for line in lines {
+                    if !line.is_empty() {
+                        writeln!(f, "  {line}")?;
+                    }
+                }
+                f.write_str("  see koo_toueg --help\n")
+            }
+            Told::OneFile(one, other) => writeln!(
+                f,
+                "  these names are of one file, which is written, or is standard input: {one}, {other}\n  see koo_toueg --help"
+            ),
+            Told::Attempt(attempt, name, reason) => {
+                writeln!(f, "  {}: {name}: {reason}", attempt_word(*attempt))
+            }
+            Told::Line(place, text) => {
+                writeln!(f, "  {}:{}: {text}", place.file, place.line)?;
+                write_line(f, line_reason(&self.fault))
+            }
+            Told::Record(place, record) => {
+                writeln!(f, "  {}:{}: {}", place.file, place.line, record.text)?;
+                write_reason(f, &self.fault, record)
+            }
+            Told::Step(place, text, hindrance) => {
+                writeln!(f, "  {}:{}: {text}", place.file, place.line)?;
+                write_line(f, hindrance_words(*hindrance))
+            }
         }
     }
 }
 
-// Writes the line of a fault, and the hints below it where they are told.
-#[tactic(auto, using(crate::proofs::HintFacts::line_alone, crate::proofs::HintFacts::line_hinted))]
-fn report_hinted<F: Files, E: Write>(
-    files: &F,
-    alloc: Global,
-    words: &Words,
-    terminal: bool,
-    fault: &ProgramFault,
-    err: &mut E,
-)
-    ensures { IsHinted F.File.remaining terminal words.now fault.now (E.contents err.old) (E.contents err.new) }
-{
-    if report_fault(fault, err) && are_told(terminal, words) {
-        write_hints(files, alloc, words, fault, err);
+// The word for what was done with a file.
+fn attempt_word(attempt: Attempt) -> &'static str {
+    match attempt {
+        Attempt::Open => "open",
+        Attempt::Read => "read",
+        Attempt::Make => "make",
+        Attempt::Write => "write",
     }
 }
 
-// Whether hints are told: standard error is a terminal, or the words ask for them.
-fn are_told(terminal: bool, words: &Words) -> bool
-    ensures { IsTrue result ↔ AreHintsTold terminal words.now }
-{
-    terminal || words.ask_for_hints()
-}
-
-// Writes the hints of a fault, where there is memory for them.
-#[tactic(auto, using(crate::proofs::HintFacts::written_front))]
-fn write_hints<F: Files, E: Write>(
-    files: &F,
-    alloc: Global,
-    words: &Words,
-    fault: &ProgramFault,
-    err: &mut E,
-)
-    ensures { (E.contents err.new ≡ E.contents err.old)
-        ⊎ WritesHints F.File.remaining words.now fault.now (E.contents err.old) (E.contents err.new) }
-{
-    let Ok(text) = hints_of(files, alloc, words, fault) else {
-        return;
-    };
-    let _ = write_whole(text.as_slice(), err);
-}
-
-// The hints of a fault of these words.
-#[tactic(auto, using(crate::proofs::HintFacts::of_taken, crate::proofs::HintFacts::of_refused))]
-fn hints_of<F: Files>(
-    files: &F,
-    alloc: Global,
-    words: &Words,
-    fault: &ProgramFault,
-) -> Result<Vec<u8>, Memory>
-    ensures { IfOk result (λ text. AreHints F.File.remaining words.now fault.now text.items) }
-{
-    match asked(alloc, words) {
-        Ok(asked) => {
-            let text = file_hints(files, alloc, &asked, fault)?;
-            Ok(text)
-        }
-        Err(_) => {
-            let text = word_hints(alloc, words)?;
-            Ok(text)
-        }
-    }
-}
-
-// The hints of a fault of words that were taken.
-#[tactic(auto, using(crate::proofs::HintFacts::of_file))]
-fn file_hints<F: Files>(
-    files: &F,
-    alloc: Global,
-    asked: &Asked<'_>,
-    fault: &ProgramFault,
-) -> Result<Vec<u8>, Memory>
-    ensures { IfOk result (λ text. IsHintOfFile F.File.remaining asked.now fault.now text.items) }
-{
-    let mut lines = Vec::new(alloc);
-    push_file(&mut lines, asked, fault)?;
-    push_place(files, alloc, &mut lines, asked, fault)?;
-    push_reason(&mut lines, fault)?;
-    push_breach(files, alloc, &mut lines, asked, fault)?;
-    push_tried(files, &mut lines, asked, fault)?;
-    Ok(lines)
-}
-
-// Gathers the name, as it was given, of the file whose text a fault is about.
-fn push_file(lines: &mut Vec<u8>, asked: &Asked<'_>, fault: &ProgramFault) -> Result<(), Memory>
-    ensures { OnOk result (lines.new.items ≡ lines.old.items ++ file_line (file_of asked.now fault.now)) }
-{
-    match file_of(asked, fault) {
-        Some(name) => push_hint(lines, "file: ", name.as_bytes()),
-        None => Ok(()),
-    }
-}
-
-// Gathers which file could not be read or made, and what was tried of it; else all that is written, where that could not be.
-#[tactic(auto, using(crate::proofs::HintFacts::all_written, crate::proofs::HintFacts::one_tried))]
-fn push_tried<F: Files>(
-    files: &F,
-    lines: &mut Vec<u8>,
-    asked: &Asked<'_>,
-    fault: &ProgramFault,
-) -> Result<(), Memory>
-    ensures { OnOk result ((text : List ℕ) × (lines.new.items ≡ lines.old.items ++ text)
-        × IsTriedShown asked.now fault.now text) }
-{
-    let Some(tried) = tried_of(files, asked, fault) else {
-        push_written(lines, asked, fault)?;
+// Writes a line, where there is one.
+fn write_line<W: fmt::Write>(f: &mut fmt::Formatter<W>, words: &str) -> fmt::Result {
+    if words.is_empty() {
         return Ok(());
-    };
-    push_hint(lines, tried.verb, tried.name.as_bytes())?;
-    Ok(())
+    }
+    writeln!(f, "  {words}")
 }
 
-// The hints of words that were refused.
-#[tactic(auto, using(crate::proofs::HintFacts::of_words))]
-fn word_hints(alloc: Global, words: &Words) -> Result<Vec<u8>, Memory>
-    ensures { IfOk result (λ text. IsHintOfWords text.items) }
-{
-    let mut lines = Vec::new(alloc);
-    push_refusal(alloc, &mut lines, words)?;
-    push_hint(&mut lines, "see koo_toueg --help", b"")?;
-    Ok(lines)
+// What was expected of the line of a text that is refused; empty where there are no words for that.
+fn line_reason(fault: &ProgramFault) -> &'static str {
+    match fault {
+        ProgramFault::Scenario(fault) => scenario_reason(fault),
+        ProgramFault::Steps(fault) => steps_reason(fault),
+        _ => "",
+    }
 }
 
-// Gathers why words are refused. Clap is asked of the words as they are shown, so that its lines are its own.
-#[tactic(auto, using(crate::proofs::HintFacts::gathers_none))]
-fn push_refusal(alloc: Global, lines: &mut Vec<u8>, words: &Words) -> Result<(), Memory>
-    ensures { OnOk result ((said : List (List ℕ)) × (lines.new.items ≡ lines.old.items ++ said_lines said)) }
-{
-    let shown = words.shown()?;
-    match asked(alloc, &shown) {
-        Err(AskFault::Line(error)) => push_said(alloc, lines, &error),
-        Err(AskFault::SameName) => push_said_line(
-            lines,
-            "a file that is written is given twice, or is read too",
-        ),
+fn scenario_reason(fault: &ScenarioFault) -> &'static str {
+    match fault {
+        ScenarioFault::Command(_) =>
+            "a line begins with object, send, checkpoint, rollback, fail or settle",
+        ScenarioFault::Words(_) =>
+            "expected: object NAME KIND, send A B BODY, checkpoint A, rollback A, fail A or settle",
+        ScenarioFault::Name(_) =>
+            "a name has 1 to 16 of a to z, 0 to 9 and _, and begins with a letter",
+        ScenarioFault::KindWord(_) => "a kind is sum, last or tail",
+        ScenarioFault::Unknown(_) => "a name has an object line above the line that uses it",
+        ScenarioFault::Number(_) =>
+            "a body is . or a whole number of 64 bits, without a leading zero",
+        ScenarioFault::TooManyObjects(_) => "a scenario has at most 64 objects",
+        ScenarioFault::TooManyCommands(_) => "a scenario has at most 4096 commands",
+        _ => "",
+    }
+}
+
+fn steps_reason(fault: &StepsFault) -> &'static str {
+    match fault {
+        StepsFault::Command(_) | StepsFault::Words(_) => "expected: do A or take AT FROM",
+        StepsFault::Unknown(_) => "no object line of the scenario has this name",
+        _ => "",
+    }
+}
+
+// Writes what was expected of a record, or which rule it breaks.
+fn write_reason<W: fmt::Write>(
+    f: &mut fmt::Formatter<W>,
+    fault: &ProgramFault,
+    record: &ToldRecord,
+) -> fmt::Result {
+    match fault {
+        ProgramFault::App(AppFault::Log(fault)) => write_log_reason(f, fault, record),
+        ProgramFault::App(AppFault::Cert(fault)) => write_cert_reason(f, fault, record),
+        ProgramFault::App(AppFault::Unfit(why)) => write_unfit(f, why),
         _ => Ok(()),
     }
 }
 
-// Gathers what clap says of words, line by line, up to how the command is used.
-#[tactic(auto, using(crate::proofs::HintFacts::gathers_none, crate::proofs::HintFacts::gathers_more))]
-fn push_said(alloc: Global, lines: &mut Vec<u8>, error: &Error) -> Result<(), Memory>
-    ensures { OnOk result ((said : List (List ℕ)) × (lines.new.items ≡ lines.old.items ++ said_lines said)) }
-{
-    let text = format!(in alloc; "{error}")?;
-    for line in text.lines() {
-        if line.starts_with("Usage:") || line.starts_with("For more information") {
-            return Ok(());
-        }
-        push_said_line(lines, line)?;
+fn write_log_reason<W: fmt::Write>(
+    f: &mut fmt::Formatter<W>,
+    fault: &LogFault,
+    record: &ToldRecord,
+) -> fmt::Result {
+    match fault {
+        LogFault::Fields(_) => writeln!(
+            f,
+            "  {} fields, expected: 4\n  {}",
+            record.fields,
+            record.form.of_row()
+        ),
+        LogFault::Word(_) => writeln!(f, "  {}", record.form.of_row()),
+        LogFault::Number(_) => match record.beyond {
+            Some(limit) => writeln!(f, "  {limit}"),
+            None => writeln!(
+                f,
+                "  {}\n  a number is written by its digits, without leading zeros",
+                record.form.of_row()
+            ),
+        },
+        LogFault::TooLong => f.write_str(
+            "  a log has at most 16777216 rows, and without a first record kt,2,-,- at most 1048576\n",
+        ),
+        LogFault::Version => f.write_str("  a first record that begins with kt is kt,2,-,-\n"),
+        LogFault::Read | LogFault::Memory => Ok(()),
     }
-    Ok(())
 }
 
-// Gathers a line of what clap says, without the word that it begins with.
-#[tactic(auto, using(crate::proofs::HintFacts::gathers_none, crate::proofs::HintFacts::gathers_one))]
-fn push_said_line(lines: &mut Vec<u8>, line: &str) -> Result<(), Memory>
-    ensures { OnOk result ((said : List (List ℕ)) × (lines.new.items ≡ lines.old.items ++ said_lines said)) }
-{
-    if line.is_empty() {
-        return Ok(());
+fn write_cert_reason<W: fmt::Write>(
+    f: &mut fmt::Formatter<W>,
+    fault: &CertTextFault,
+    record: &ToldRecord,
+) -> fmt::Result {
+    match fault {
+        CertTextFault::Fields(_) => writeln!(
+            f,
+            "  {} fields, expected: 5\n  {}",
+            record.fields,
+            record.form.of_certificate()
+        ),
+        CertTextFault::Word(_) | CertTextFault::Place(_) => writeln!(
+            f,
+            "  {}",
+            record.form.of_certificate()
+        ),
+        CertTextFault::Number(_) => writeln!(
+            f,
+            "  {}\n  a number is written by its digits, without leading zeros",
+            record.form.of_certificate()
+        ),
+        CertTextFault::TooLong => f.write_str(
+            "  there are at most 524288 records of certificates\n",
+        ),
+        CertTextFault::Read | CertTextFault::Memory => Ok(()),
     }
-    let line = line.strip_prefix("error: ").unwrap_or(line);
-    push_hint(lines, "", line.as_bytes())?;
-    Ok(())
+}
+
+// Writes why a log has no certificates.
+fn write_unfit<W: fmt::Write>(f: &mut fmt::Formatter<W>, why: &Unfit) -> fmt::Result {
+    match why {
+        Unfit::BadLog(row, rule) => writeln!(f, "  row {row}, rule {rule}: {}", rule_name(*rule)),
+        Unfit::NoChain(inst, _, process) => writeln!(
+            f,
+            "  no message links process {process} with a member of instance {inst} that joined before it"
+        ),
+    }
+}
+
+// What stands in the way of a step, in words.
+fn hindrance_words(why: Option<Hindrance>) -> &'static str {
+    match why {
+        Some(Hindrance::NoCommand) => "the process has no command left",
+        Some(Hindrance::PhaseNotOpen) =>
+            "the next command of the process comes after a settle, which waits until all is at rest",
+        Some(Hindrance::SendInInstance) =>
+            "the next command of the process is a send, and the process is in an instance",
+        Some(Hindrance::NoParcel) =>
+            "there is nothing that the first process could take of the second one",
+        None => "",
+    }
+}
+
+// The name of a rule.
+fn rule_name(rule: Rule) -> &'static str {
+    match rule {
+        Rule::Numbers => "numbers",
+        Rule::Message => "message",
+        Rule::Order => "order",
+        Rule::Sending => "sending",
+        Rule::Receiving => "receiving",
+        Rule::Joining => "joining",
+        Rule::Deciding => "deciding",
+        Rule::Closing => "closing",
+        Rule::Causes => "causes",
+    }
 }

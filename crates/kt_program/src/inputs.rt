@@ -2,9 +2,12 @@
 
 ghost use Rattle.std.specs.Prelude.{◌≡◌, ◌≢◌, ◌++◌, ℕ, List, IfOk, IfErr, IfSome, IsTrue, false};
 ghost use Rattle.std.specs.Io.KnownBytes.{Consumes, IsAtEnd};
-ghost use Rattle.kt_program.specs.Inputs.{AreStepsOf, IsRead, IsScenarioOf, IsScenarioRefusal, IsStepsRefusal, IsTextOfFile, of_read, of_scenario, of_steps};
+ghost use Rattle.kt_program.specs.Inputs.{AreStepsOf, IsRead, IsScenarioOf, IsScenarioRefusal, IsStepsRefusal, of_read, of_scenario, of_steps};
 
-use crate::fault::{AppFault, ProgramFault};
+use crate::fault::{AppFault, Failure, ProgramFault};
+use crate::names::source_of;
+use crate::shown::Shown;
+use crate::told::{Attempt, Told};
 use kt_plan::{Plan, Step};
 use kt_scenario::{ScenarioFault, StepsFault, parse, parse_steps};
 use kt_text::ReadFault;
@@ -21,78 +24,146 @@ const MOST_SCENARIO_BYTES: usize = 1_048_576;
 
 const MOST_STEP_BYTES: usize = 67_108_864;
 
+/// What is read, the name that was given for it, and why a read of it failed.
+#[derive(Drop)]
+pub(crate) struct Input<R> {
+    pub(crate) source: R,
+    pub(crate) name: Shown,
+    why: Option<io::Error>,
+}
+
+impl<R> Input<R> {
+    /// A reader by this name.
+    pub(crate) fn new(source: R, name: &str) -> Input<R>
+        ensures { result.source ≡ source }
+    {
+        Input {
+            source,
+            name: Shown::of(name.as_bytes()),
+            why: None,
+        }
+    }
+
+    /// What is told of a read that failed.
+    pub(crate) fn told(&self) -> Told {
+        match &self.why {
+            Some(error) => Told::attempt(Attempt::Read, self.name, error),
+            None => Told::Nothing,
+        }
+    }
+}
+
+impl<R: Read> Read for Input<R> {
+    ghost remaining = { λ input. R.remaining input.source };
+
+    fn read(&mut self, buf: &mut [u8]) -> io::Result<usize> {
+        match self.source.read(buf) {
+            Ok(count) => Ok(count),
+            Err(error) => {
+                self.why = Some(error);
+                Err(error)
+            }
+        }
+    }
+}
+
+/// Opens a file that is read, by `-` standard input; this is the fault where that fails.
+pub(crate) fn open_input<F: Files>(
+    files: &F,
+    name: &str,
+    fault: ProgramFault,
+) -> Result<Input<F::File>, Failure>
+    ensures { IfErr result (λ failure. failure.fault ≡ fault) }
+{
+    match fs::open(files, source_of(name)) {
+        Ok(file) => Ok(Input::new(file, name)),
+        Err(error) => Err(Failure {
+            fault,
+            told: Told::attempt(Attempt::Open, Shown::of(name.as_bytes()), &error),
+        }),
+    }
+}
+
 /// The plan of the scenario that a reader tells.
-pub fn read_scenario<R: Read + Drop>(alloc: Global, mut reader: R) -> Result<Plan, ProgramFault>
+pub fn read_scenario<R: Read + Drop>(alloc: Global, reader: R) -> Result<Plan, ProgramFault>
     ensures plan { IfOk result (λ plan. IsScenarioOf (R.remaining reader) plan) }
     ensures fault { IfErr result (IsScenarioRefusal (R.remaining reader)) }
 {
-    let text = match read_text(alloc, &mut reader, MOST_SCENARIO_BYTES) {
+    match plan_of(alloc, &mut Input::new(reader, "")) {
+        Ok(plan) => Ok(plan),
+        Err(failure) => Err(failure.fault),
+    }
+}
+
+/// The plan of the scenario that an input tells.
+pub(crate) fn plan_of<R: Read>(alloc: Global, input: &mut Input<R>) -> Result<Plan, Failure>
+    ensures plan { IfOk result (λ plan. IsScenarioOf (R.remaining input.old.source) plan) }
+    ensures fault { IfErr result (λ failure. IsScenarioRefusal (R.remaining input.old.source) failure.fault) }
+{
+    let text = match read_text(alloc, input, MOST_SCENARIO_BYTES) {
         Ok(text) => text,
-        Err(fault) => return Err(read_fault(fault)),
+        Err(fault) => {
+            return Err(Failure {
+                fault: read_fault(fault),
+                told: input.told(),
+            });
+        }
     };
     match parse(alloc, text.as_slice()) {
         Ok(plan) => Ok(plan),
-        Err(fault) => Err(scenario_fault(fault)),
+        Err(fault) => Err(Failure {
+            fault: scenario_fault(fault),
+            told: Told::line(input.name, text.as_slice(), scenario_line(&fault)),
+        }),
     }
 }
 
 /// The steps of a plan's processes that a reader tells.
 pub fn read_steps<R: Read + Drop>(
     alloc: Global,
-    mut reader: R,
+    reader: R,
     plan: &Plan,
 ) -> Result<Vec<Step>, ProgramFault>
     ensures steps { IfOk result (λ steps. AreStepsOf (R.remaining reader) plan.now.names steps.items) }
     ensures fault { IfErr result (IsStepsRefusal (R.remaining reader) plan.now.names) }
 {
-    let text = match read_text(alloc, &mut reader, MOST_STEP_BYTES) {
+    match steps_of(alloc, &mut Input::new(reader, ""), plan) {
+        Ok(read) => Ok(read.steps),
+        Err(failure) => Err(failure.fault),
+    }
+}
+
+/// Steps that were read, and the text that says them.
+#[derive(Drop)]
+pub(crate) struct StepsRead {
+    pub(crate) steps: Vec<Step>,
+    pub(crate) text: Vec<u8>,
+}
+
+/// The steps of a plan's processes that an input tells.
+pub(crate) fn steps_of<R: Read>(
+    alloc: Global,
+    input: &mut Input<R>,
+    plan: &Plan,
+) -> Result<StepsRead, Failure>
+    ensures steps { IfOk result (λ read. AreStepsOf (R.remaining input.old.source) plan.now.names read.steps.items) }
+    ensures fault { IfErr result (λ failure. IsStepsRefusal (R.remaining input.old.source) plan.now.names failure.fault) }
+{
+    let text = match read_text(alloc, input, MOST_STEP_BYTES) {
         Ok(text) => text,
-        Err(fault) => return Err(read_fault(fault)),
+        Err(fault) => {
+            return Err(Failure {
+                fault: read_fault(fault),
+                told: input.told(),
+            });
+        }
     };
     match parse_steps(alloc, text.as_slice(), plan) {
-        Ok(steps) => Ok(steps),
-        Err(fault) => Err(steps_fault(fault)),
-    }
-}
-
-/// What a regular file has, where it can be read and has no more bytes than a text of steps.
-pub(crate) fn text_of_file<F: Files>(files: &F, alloc: Global, name: &str) -> Option<Vec<u8>>
-    ensures { IfSome result (λ text. IsTextOfFile F.File.remaining text.items) }
-{
-    let file = regular_file(files, name)?;
-    whole_text(alloc, file)
-}
-
-/// A regular file, opened to be read.
-pub(crate) fn regular_file<F: Files>(files: &F, name: &str) -> Option<F::File> {
-    if !is_regular(files, name) {
-        return None;
-    }
-    match fs::open(files, name) {
-        Ok(file) => Some(file),
-        Err(_) => None,
-    }
-}
-
-// The text that a reader tells, where it has no more bytes than a text of steps.
-#[tactic(auto, using(crate::proofs::HintFacts::whole_of))]
-fn whole_text<R: Read + Drop>(alloc: Global, mut reader: R) -> Option<Vec<u8>>
-    ensures { IfSome result (λ text. IfSome (R.remaining reader) (λ whole. whole ≡ text.items)) }
-{
-    let Ok(text) = read_text(alloc, &mut reader, MOST_STEP_BYTES) else {
-        return None;
-    };
-    if text.len() > MOST_STEP_BYTES {
-        return None;
-    }
-    Some(text)
-}
-
-// Whether a name leads to a regular file, which neither waits to be opened nor to be read.
-fn is_regular<F: Files>(files: &F, name: &str) -> bool {
-    match fs::metadata(files, name) {
-        Ok(metadata) => metadata.is_file(),
-        Err(_) => false,
+        Ok(steps) => Ok(StepsRead { steps, text }),
+        Err(fault) => Err(Failure {
+            fault: steps_fault(fault),
+            told: Told::line(input.name, text.as_slice(), steps_line(&fault)),
+        }),
     }
 }
 
@@ -165,5 +236,34 @@ fn steps_fault(fault: StepsFault) -> ProgramFault
     match fault {
         StepsFault::Memory => ProgramFault::App(AppFault::Memory),
         _ => ProgramFault::Steps(fault),
+    }
+}
+
+// The number of the line of a scenario that a fault names.
+fn scenario_line(fault: &ScenarioFault) -> Option<usize> {
+    match fault {
+        ScenarioFault::TooLong | ScenarioFault::Memory => None,
+        ScenarioFault::Command(line)
+        | ScenarioFault::Words(line)
+        | ScenarioFault::Name(line)
+        | ScenarioFault::Twice(line)
+        | ScenarioFault::KindWord(line)
+        | ScenarioFault::TooManyObjects(line)
+        | ScenarioFault::Unknown(line)
+        | ScenarioFault::Itself(line)
+        | ScenarioFault::Number(line)
+        | ScenarioFault::TooManyCommands(line) => Some(*line),
+    }
+}
+
+// The number of the line of a text of steps that a fault names.
+fn steps_line(fault: &StepsFault) -> Option<usize> {
+    match fault {
+        StepsFault::TooLong | StepsFault::Memory => None,
+        StepsFault::Command(line)
+        | StepsFault::Words(line)
+        | StepsFault::Unknown(line)
+        | StepsFault::Itself(line)
+        | StepsFault::TooMany(line) => Some(*line),
     }
 }

@@ -6,15 +6,12 @@
 //! files `running.rt`, over new objects `runs.rt` (`specs/Made`), over given ones `played.rt`; its objects
 //! `casts.rt`, its texts `inputs.rt`, that it lost no message `laws.rt`; a stored run `checked.rt`, what is told of
 //! its answer `explained.rt`; a stored log certified `certified.rt`, from its file `certifying.rt`, or drawn
-//! `drawn.rt`, from its file `drawing.rt`; faults `fault.rt`; statuses `ending.rt`; what is told below a fault's line
-//! `hints.rt`, of which file and line `subject.rt`, that line, record or step `places.rt`, what stands in the way of
-//! a step `hindered.rt`, what was expected of a record `expected.rt`, of a line `reason.rt`, what breaks a rule
-//! `breaches.rt`, which file can't be read or made `tried.rt`, all that is written `targets.rt`; the whole
-//! `program.rt`.
+//! `drawn.rt`, from its file `drawing.rt`; faults `fault.rt`; statuses `ending.rt`; what a person is told of a fault
+//! `told.rt`, in words `hints.rt`, of a record `forms.rt`, at which line it stands `places.rt`, texts of others
+//! `shown.rt`; the whole `program.rt`.
 #![tactic(auto)]
 
 pub mod ask;
-mod breaches;
 pub mod casts;
 pub mod certified;
 mod certifying;
@@ -22,11 +19,10 @@ pub mod checked;
 mod drawing;
 pub mod drawn;
 pub mod ending;
-mod expected;
 pub mod explained;
 pub mod fault;
 mod files;
-mod hindered;
+pub mod forms;
 mod hints;
 pub mod inputs;
 pub mod laws;
@@ -36,13 +32,11 @@ pub mod outputs;
 mod places;
 pub mod played;
 pub mod program;
-mod reason;
 mod running;
 mod runs;
+pub mod shown;
 pub mod streams;
-mod subject;
-mod targets;
-mod tried;
+pub mod told;
 pub mod words;
 
 pub use ask::{AskFault, asked};
@@ -52,13 +46,14 @@ pub use checked::check_bytes;
 pub use drawn::{draw_bytes, draw_certified_bytes};
 pub use ending::{Done, end, write_fault};
 pub use explained::explain_bytes;
-pub use fault::{AppFault, ProgramFault};
+pub use fault::{AppFailure, AppFault, Failure, ProgramFault};
 pub use inputs::{read_scenario, read_steps};
 pub use laws::no_message_is_lost;
-pub use line::{Asked, By, Drawing, OrderedPlay, RecordedLive, Run};
+pub use line::{Asked, By, Drawing, Run};
 pub use names::{clash, is_device};
 pub use outputs::Output;
 pub use played::{live_plan, play_plan};
 pub use program::{carry_out, run, run_words};
-pub use streams::stand_in;
+pub use streams::{StandIns, stand_ins};
+pub use told::Told;
 pub use words::Words;

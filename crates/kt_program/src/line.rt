@@ -2,38 +2,8 @@
 
 ghost use Rattle.std.specs.Prelude.{◌≡◌, MatchBool};
 
-use crate::names::clash;
+use crate::names::{STANDARD, clash, is_among, is_read_twice};
 use kt_draw::Span;
-
-/// A scenario that is to be played in an order of its own, or of which the steps are to be kept, with the names of files.
-#[derive(Clone, Copy)]
-pub struct OrderedPlay<'a> {
-    /// The scenario.
-    pub scenario: &'a str,
-    /// The steps that come first, where that is asked.
-    pub steps: Option<&'a str>,
-    /// The seed by which the steps after these are drawn; none for default steps.
-    pub seed: Option<u64>,
-    /// Where all the steps that are made are written, where that is asked.
-    pub kept: Option<&'a str>,
-    /// Where the log is written, where that is asked.
-    pub log: Option<&'a str>,
-    /// Where the certificates are written, where that is asked.
-    pub cert: Option<&'a str>,
-}
-
-/// A scenario that is to be run in threads, of which the steps are to be kept, with the names of files.
-#[derive(Clone, Copy)]
-pub struct RecordedLive<'a> {
-    /// The scenario.
-    pub scenario: &'a str,
-    /// Where the steps that are made are written.
-    pub kept: &'a str,
-    /// Where the log is written, where that is asked.
-    pub log: Option<&'a str>,
-    /// Where the certificates are written, where that is asked.
-    pub cert: Option<&'a str>,
-}
 
 /// By what a run is made.
 #[derive(Clone, Copy)]
@@ -73,16 +43,14 @@ pub enum Asked<'a> {
         log: Option<&'a str>,
         cert: Option<&'a str>,
     },
-    /// Play a scenario by steps that are drawn, or with its steps written.
-    PlayInOrder(OrderedPlay<'a>),
     /// Run a scenario, each object in a thread of its own, and write its log and its certificates where that is asked.
     Live {
         scenario: &'a str,
         log: Option<&'a str>,
         cert: Option<&'a str>,
     },
-    /// Run a scenario so, with its steps written.
-    LiveRecorded(RecordedLive<'a>),
+    /// Run a scenario by steps that are drawn, or with its steps written.
+    Run(Run<'a>),
     /// Judge a stored log with its certificates.
     Check {
         log: &'a str,
@@ -114,7 +82,7 @@ pub struct Drawing<'a> {
 }
 
 impl<'a> Run<'a> {
-    ghost use Rattle.kt_program.specs.Made.{lived_run, ordered_run, played_run, recorded_run};
+    ghost use Rattle.kt_program.specs.Made.{lived_run, played_run};
 
     /// A run by default steps after those that come first.
     pub(crate) fn played(
@@ -150,45 +118,22 @@ impl<'a> Run<'a> {
             cert,
         }
     }
+}
 
-    /// A run in an order of its own, or of which the steps are kept.
-    pub(crate) fn ordered(play: &OrderedPlay<'a>) -> Run<'a>
-        ensures { result ≡ ordered_run play.now }
-    {
-        Run {
-            by: By::Serial,
-            scenario: play.scenario,
-            steps: play.steps,
-            seed: play.seed,
-            kept: play.kept,
-            log: play.log,
-            cert: play.cert,
-        }
-    }
-
-    /// A run in threads, of which the steps are kept.
-    pub(crate) fn recorded(live: &RecordedLive<'a>) -> Run<'a>
-        ensures { result ≡ recorded_run live.now }
-    {
-        Run {
-            by: By::Threads,
-            scenario: live.scenario,
-            steps: None,
-            seed: None,
-            kept: Some(live.kept),
-            log: live.log,
-            cert: live.cert,
-        }
-    }
+/// The names of the files that are read, and of those that are written.
+#[derive(Clone, Copy)]
+pub(crate) struct FileNames<'a> {
+    pub(crate) inputs: [Option<&'a str>; 3],
+    pub(crate) outputs: [Option<&'a str>; 3],
 }
 
 impl<'a> Asked<'a> {
-    ghost use Rattle.kt_program.specs.Names.{IsApart};
+    ghost use Rattle.kt_program.specs.Names.{IsApart, inputs_of, outputs_of};
 
-    /// Whether a file that is to be written has the name of one that is read, or of another one that is written. The
-    /// name of a device may be given again.
-    pub fn clash(&self) -> bool
-        ensures { MatchBool result (¬ IsApart self.now) (IsApart self.now) }
+    // The names of the files that it reads and writes.
+    fn names(&self) -> FileNames<'a>
+        ensures inputs { result.inputs ≡ inputs_of self.now }
+        ensures outputs { result.outputs ≡ outputs_of self.now }
     {
         match self {
             Asked::Play {
@@ -196,24 +141,56 @@ impl<'a> Asked<'a> {
                 steps,
                 log,
                 cert,
-            } => clash(&[Some(*scenario), *steps], &[*log, *cert]),
-            Asked::PlayInOrder(play) => clash(
-                &[Some(play.scenario), play.steps],
-                &[play.log, play.cert, play.kept],
-            ),
+            } => FileNames {
+                inputs: [Some(*scenario), *steps, None],
+                outputs: [*log, *cert, None],
+            },
             Asked::Live {
                 scenario,
                 log,
                 cert,
-            } => clash(&[Some(*scenario)], &[*log, *cert]),
-            Asked::LiveRecorded(live) => clash(
-                &[Some(live.scenario)],
-                &[live.log, live.cert, Some(live.kept)],
-            ),
-            Asked::Check { log, cert } => clash(&[Some(*log), Some(*cert)], &[]),
-            Asked::Explain { log, cert } => clash(&[Some(*log), Some(*cert)], &[]),
-            Asked::Certify { log, cert } => clash(&[Some(*log)], &[*cert]),
-            Asked::Draw(asked) => clash(&[Some(asked.log), asked.names, asked.cert], &[asked.svg]),
+            } => FileNames {
+                inputs: [Some(*scenario), None, None],
+                outputs: [*log, *cert, None],
+            },
+            Asked::Run(run) => FileNames {
+                inputs: [Some(run.scenario), run.steps, None],
+                outputs: [run.log, run.cert, run.kept],
+            },
+            Asked::Check { log, cert } | Asked::Explain { log, cert } => FileNames {
+                inputs: [Some(*log), Some(*cert), None],
+                outputs: [None; 3],
+            },
+            Asked::Certify { log, cert } => FileNames {
+                inputs: [Some(*log), None, None],
+                outputs: [*cert, None, None],
+            },
+            Asked::Draw(asked) => FileNames {
+                inputs: [Some(asked.log), asked.names, asked.cert],
+                outputs: [asked.svg, None, None],
+            },
         }
+    }
+
+    /// Whether a file that is to be written has the name of one that is read, or of another one that is written, or standard
+    /// input is read twice. The name of a device, or of standard output, may be given again.
+    pub fn clash(&self) -> bool
+        ensures { MatchBool result (¬ IsApart self.now) (IsApart self.now) }
+    {
+        let names = self.names();
+        clash(&names.inputs, &names.outputs) || is_read_twice(&names.inputs)
+    }
+
+    /// A name that is given twice, where one is.
+    pub(crate) fn name_twice(&self) -> &'a str {
+        let names = self.names();
+        for (place, output) in names.outputs.iter().enumerate() {
+            if let Some(name) = output {
+                if is_among(*output, &names.inputs) || is_among(*output, &names.outputs[..place]) {
+                    return name;
+                }
+            }
+        }
+        STANDARD
     }
 }

@@ -1,15 +1,15 @@
 //! Names of files, and which of them may be given together.
 
 ghost use Rattle.std.specs.Prelude.{◌↔◌, All, IsTrue, MatchBool};
-ghost use Rattle.kt_program.specs.Names.{Apart, AreApart, IsDescriptor, IsDevice};
+ghost use Rattle.kt_program.specs.Names.{Apart, AreApart, IsDescriptor, AreReadOnce, IsDevice, IsStandard, ReadOnce};
 
-/// Whether a name is a device's that may be given again: `/dev/null`, `/dev/stdin`, `/dev/stdout`, `/dev/stderr`, `/dev/tty`, or
-/// `/dev/fd/` and a number.
+/// Whether a name may be given again: that of standard input or output, `-`, or a device's: `/dev/null`, `/dev/stdin`,
+/// `/dev/stdout`, `/dev/stderr`, `/dev/tty`, or `/dev/fd/` and a number.
 pub fn is_device(name: &str) -> bool
     ensures { IsTrue result ↔ IsDevice name.now }
 {
     match name {
-        "/dev/null" | "/dev/stdin" | "/dev/stdout" | "/dev/stderr" | "/dev/tty" => true,
+        "-" | "/dev/null" | "/dev/stdin" | "/dev/stdout" | "/dev/stderr" | "/dev/tty" => true,
         _ => is_descriptor(name),
     }
 }
@@ -23,6 +23,34 @@ fn is_descriptor(name: &str) -> bool
         None => false,
     }
 }
+
+/// The name of standard input where a file is read, and of standard output where one is written.
+pub(crate) const STANDARD: &str = "-";
+
+/// Whether standard output is written: no file is named, or that is.
+pub(crate) fn is_standard(name: Option<&str>) -> bool
+    ensures { MatchBool result (IsStandard name.entry) (¬ IsStandard name.entry) }
+{
+    match name {
+        Some(name) => name == STANDARD,
+        None => true,
+    }
+}
+
+/// The name by which a file is opened that is read.
+pub(crate) fn source_of(name: &str) -> &str {
+    if name == STANDARD { "/dev/stdin" } else { name }
+}
+
+/// The name by which a file is opened that is written.
+pub(crate) fn target_of(name: &str) -> &str {
+    if name == STANDARD {
+        "/dev/stdout"
+    } else {
+        name
+    }
+}
+
 // Whether both names are given, are the same, and are no device's.
 fn is_same(one: Option<&str>, other: Option<&str>) -> bool
     ensures { MatchBool result (¬ Apart one.entry other.entry) (Apart one.entry other.entry) }
@@ -33,12 +61,46 @@ fn is_same(one: Option<&str>, other: Option<&str>) -> bool
     }
 }
 
-// Whether a name is the same as one of these.
-fn is_among(name: Option<&str>, names: &[Option<&str>]) -> bool
+/// Whether a name is the same as one of these.
+pub(crate) fn is_among(name: Option<&str>, names: &[Option<&str>]) -> bool
     ensures { MatchBool result (¬ All (Apart name.entry) names.now) (All (Apart name.entry) names.now) }
 {
     for other in names {
         if is_same(name, *other) {
+            return true;
+        }
+    }
+    false
+}
+
+// Whether both are names of standard input.
+fn are_standard(one: Option<&str>, other: Option<&str>) -> bool
+    ensures { MatchBool result (¬ ReadOnce one.entry other.entry) (ReadOnce one.entry other.entry) }
+{
+    match (one, other) {
+        (Some(one), Some(other)) => one == STANDARD && other == STANDARD,
+        _ => false,
+    }
+}
+
+// Whether a name and one of these are names of standard input.
+fn is_read_among(name: Option<&str>, names: &[Option<&str>]) -> bool
+    ensures { MatchBool result (¬ All (ReadOnce name.entry) names.now) (All (ReadOnce name.entry) names.now) }
+{
+    for other in names {
+        if are_standard(name, *other) {
+            return true;
+        }
+    }
+    false
+}
+
+/// Whether standard input is read twice.
+pub(crate) fn is_read_twice(inputs: &[Option<&str>]) -> bool
+    ensures { MatchBool result (¬ AreReadOnce inputs.now) (AreReadOnce inputs.now) }
+{
+    for (place, input) in inputs.iter().enumerate() {
+        if is_read_among(*input, &inputs[..place]) {
             return true;
         }
     }

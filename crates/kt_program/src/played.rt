@@ -19,6 +19,7 @@ ghost use Rattle.kt_program.specs.Played.{IsOfWriting, IsWritten, StopsAtFault, 
 
 use crate::fault::AppFault;
 use crate::laws::no_message_is_lost;
+use crate::runs::played_cast;
 use kt_certify::certificates_of_run;
 use kt_chain::write_certs;
 use kt_held::Cast;
@@ -26,7 +27,6 @@ use kt_log_text::write_csv;
 use kt_object::Recoverable;
 use kt_plan::{Plan, Step};
 use kt_report::report_of_run;
-use kt_run::log_of;
 use kt_spacetime::SpaceTime;
 use kt_threads::live_log_of;
 use std::alloc::Global;
@@ -83,7 +83,7 @@ pub fn play_plan<L: Write, C: Write, R: Write>(
     // No list is kept of what a process is told, so none lacks memory.
     ensures untold { IfErr result (λ e. (p : ℕ) → e ≢ AppFault.Run (run_fault.Journal p)) }
 {
-    let log = log_of(alloc, plan, steps, cast)?;
+    let log = played_cast(alloc, plan, steps, &mut None, cast)?;
     write_run(alloc, plan, &log, log_writer, cert_writer, report_writer)
 }
 

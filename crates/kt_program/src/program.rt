@@ -8,63 +8,67 @@ ghost use Rattle.kt_program.specs.declared.ending.Done.TheVariants.{Shown};
 ghost use Rattle.kt_program.specs.declared.fault.AppFault.TheVariants as app;
 ghost use Rattle.kt_program.specs.declared.fault.ProgramFault.TheVariants as program;
 ghost use Rattle.kt_program.specs.Asking.{EndsFor, IsRequest, IsUnshown};
-ghost use Rattle.kt_program.specs.Ending.{CertifiedFor, DrawnFor, Ends, EndsOn, LeavesOutput, LeavesAnswer, PlayedFor};
+ghost use Rattle.kt_program.specs.Ending.{CertifiedFor, DrawnFor, Ends, EndsOn, JudgedFor, LeavesOutput, PlayedFor};
 
 use crate::ask::{AskFault, asked};
 use crate::certifying::certify_files;
-use crate::checked::check_bytes;
+use crate::checked::check_files;
 use crate::drawing::draw_files;
-use crate::ending::{Done, end};
+use crate::ending::{Done, end, end_told};
 use crate::explained::explain_files;
-use crate::fault::{AppFault, ProgramFault};
-use crate::hints::end_hinted;
+use crate::fault::{AppFault, Failure, ProgramFault};
 use crate::line::{Asked, Run};
 use crate::running::run_files;
+use crate::streams::StandIns;
+use crate::told::Told;
 use crate::words::Words;
 use clap::Error;
 use clap::error::ErrorKind;
-use kt_chain::CertTextFault;
-use kt_log_text::LogFault;
 use std::alloc::Global;
+use std::env::FillError;
 use std::io::Write;
 use std::rt::{Env, Files};
 use std::sync::Wait;
 use std::thread::Threads;
-use std::{env, fs, io};
+use std::{env, io};
 
 /// Does what the words of the command line ask, writes the answer to `out` and a fault's line to `err`, and gives the exit
-/// status. Below that line it writes what is wrong, and where, if `err` is a terminal or `--hints` stands before the command.
+/// status. Below that line it writes what is wrong, and where, if `err` is a terminal, `--hints` stands among the words, or
+/// the environment has `KOO_TOUEG_HINTS` with another text than `0`. No standard stream's descriptor is free meanwhile, as far
+/// as it can be stood in for.
 pub fn run<V: Env, F: Files + Threads + Wait + Sync, O: Write, E: Write>(
     env: &V,
     files: &F,
     alloc: Global,
+    _stand_ins: &StandIns<F::File>,
     terminal: bool,
     out: &mut O,
     err: &mut E,
 ) -> u8
-    ensures { Ends F.File.remaining terminal result (O.contents out.old) (O.contents out.new)
-        (E.contents err.old) (E.contents err.new) }
+    ensures { Ends result (O.contents out.old) (O.contents out.new) (E.contents err.old) (E.contents err.new) }
 {
+    let hints = terminal || asks_for_hints(env);
     match words_of(env, alloc) {
-        Ok(words) => run_words(files, alloc, &words, terminal, out, err),
+        Ok(words) => run_words(files, alloc, &words, hints, out, err),
         Err(fault) => end(Err(fault), err),
     }
 }
 
-/// Does what these words ask, as `run` does what those of the command line ask.
+/// Does what these words ask, as `run` does what those of the command line ask; `hints` is true where it tells what is wrong
+/// though no word asks for that.
 pub fn run_words<F: Files + Threads + Wait + Sync, O: Write, E: Write>(
     files: &F,
     alloc: Global,
     words: &Words,
-    terminal: bool,
+    hints: bool,
     out: &mut O,
     err: &mut E,
 ) -> u8
-    ensures { EndsOn F.File.remaining terminal words.now result (O.contents out.old) (O.contents out.new)
+    ensures { EndsOn words.now result (O.contents out.old) (O.contents out.new)
         (E.contents err.old) (E.contents err.new) }
 {
     let outcome = carry_out(files, alloc, words, out);
-    end_hinted(files, alloc, words, terminal, outcome, err)
+    end_told(hints || words.ask_for_hints(), outcome, err)
 }
 
 /// Does what these words ask, and writes the answer or the help to `out`.
@@ -73,12 +77,14 @@ pub fn carry_out<F: Files + Threads + Wait + Sync, O: Write>(
     alloc: Global,
     words: &Words,
     out: &mut O,
-) -> Result<Done, ProgramFault>
+) -> Result<Done, Failure>
     // What is done, or that the words are refused, is what clap's definition of the command line gives for them.
     ensures words { EndsFor words.now result }
     ensures output { LeavesOutput words.now result (O.contents out.old) (O.contents out.new) }
     // A scenario that is played begins with the steps of the file that the words name.
     ensures played { IfOk result (PlayedFor words.now F.File.remaining (O.contents out.old) (O.contents out.new)) }
+    // The answer that is written is the checker's to the bytes of two files, and what is told of it is so.
+    ensures judged { IfOk result (JudgedFor words.now F.File.remaining (O.contents out.old) (O.contents out.new)) }
     // The certificates that are written are those of the rows that a file says, and go where the words ask.
     ensures certified { IfOk result (CertifiedFor words.now F.File.remaining (O.contents out.old) (O.contents out.new)) }
     // The picture that is drawn is that of the rows that the words ask for, of the log that a file says, and goes where they
@@ -101,24 +107,42 @@ pub fn carry_out<F: Files + Threads + Wait + Sync, O: Write>(
                 cert,
             },
         ) => run_files(files, alloc, &Run::lived(scenario, log, cert), out),
-        Ok(Asked::PlayInOrder(play)) => run_files(files, alloc, &Run::ordered(&play), out),
-        Ok(Asked::LiveRecorded(live)) => run_files(files, alloc, &Run::recorded(&live), out),
+        Ok(Asked::Run(run)) => run_files(files, alloc, &run, out),
         Ok(Asked::Check { log, cert }) => match check_files(files, alloc, log, cert, out) {
             Ok(passed) => Ok(Done::Judged(passed)),
-            Err(fault) => Err(ProgramFault::App(fault)),
+            Err(failure) => Err(failure),
         },
         Ok(Asked::Explain { log, cert }) => match explain_files(files, alloc, log, cert, out) {
             Ok(passed) => Ok(Done::Explained(passed)),
-            Err(fault) => Err(ProgramFault::App(fault)),
+            Err(failure) => Err(failure),
         },
         Ok(Asked::Certify { log, cert }) => {
             certify_files(files, alloc, log, cert, out)?;
             Ok(Done::Certified)
         }
         Ok(Asked::Draw(picture)) => draw_files(files, alloc, &picture, out),
-        Err(AskFault::Line(error)) => show_text(out, &error),
-        Err(AskFault::SameName) => Err(ProgramFault::Line),
-        Err(AskFault::Memory) => Err(ProgramFault::App(AppFault::Memory)),
+        Err(AskFault::Line(error)) => match show_text(out, &error) {
+            Ok(done) => Ok(done),
+            Err(fault) => Err(Failure {
+                fault,
+                told: Told::words(alloc, &error),
+            }),
+        },
+        Err(AskFault::SameName(name)) => Err(Failure {
+            fault: ProgramFault::Line,
+            told: Told::one_file(name, name),
+        }),
+        Err(AskFault::Memory) => Err(Failure::from(AppFault::Memory)),
+    }
+}
+
+// Whether the environment asks for what is told below a fault's line.
+fn asks_for_hints<V: Env>(env: &V) -> bool {
+    let mut text = [0; 2];
+    match env.var("KOO_TOUEG_HINTS", &mut text) {
+        Ok(1) => text[0] != b'0',
+        Ok(_) | Err(FillError::TooLong) => true,
+        Err(FillError::NotPresent) => false,
     }
 }
 
@@ -145,26 +169,6 @@ fn words_fault(error: &io::Error) -> ProgramFault
         io::ErrorKind::OutOfMemory => ProgramFault::App(AppFault::Memory),
         _ => ProgramFault::Line,
     }
-}
-
-// Judges the log and the certificates in these files; true for a yes.
-#[inline(never)]
-fn check_files<F: Files, O: Write>(
-    files: &F,
-    alloc: Global,
-    log: &str,
-    cert: &str,
-    out: &mut O,
-) -> Result<bool, AppFault>
-    ensures { LeavesAnswer result (O.contents out.old) (O.contents out.new) }
-{
-    let Ok(log) = fs::open(files, log) else {
-        return Err(AppFault::Log(LogFault::Read));
-    };
-    let Ok(cert) = fs::open(files, cert) else {
-        return Err(AppFault::Cert(CertTextFault::Read));
-    };
-    check_bytes(alloc, log, cert, out)
 }
 
 // Writes the help or the version that was asked for. Any other error of clap is a refusal, or want of memory.

@@ -7,30 +7,33 @@ ghost use Rattle.kt_program.specs.Ending.{AppendsRun, IsNotOfSteps, IsOfInput, I
 ghost use Rattle.kt_program.specs.Files.{AreOthers};
 ghost use Rattle.kt_program.specs.Inputs.{AreGiven, IsPlanOfFile};
 ghost use Rattle.kt_program.specs.Made.{way_by};
-ghost use Rattle.kt_program.specs.Names.{IsNaming};
 ghost use Rattle.kt_program.specs.Outputs.{files_of};
 
 use crate::ending::Done;
-use crate::fault::ProgramFault;
+use crate::fault::{AppFault, Failure, ProgramFault};
 use crate::files::{FileNumber, ReadFrom, number_of};
-use crate::inputs::{read_scenario, read_steps};
+use crate::inputs::{StepsRead, open_input, plan_of, steps_of};
 use crate::line::{By, Run};
 use crate::outputs::{Outputs, Targets, outputs_of};
 use crate::runs::{Way, run_objects};
+use crate::shown::Shown;
+use crate::told::Told;
+use kt_core::StepFault;
 use kt_plan::{Plan, Step};
-use kt_run::Order;
+use kt_plans::Hindrance;
+use kt_run::{Order, RunFault};
 use std::alloc::Global;
-use std::fs;
 use std::io::Write;
 use std::rt::Files;
 use std::sync::Wait;
 use std::thread::Threads;
 
-/// A scenario that was read, with the steps that come first, and the files that they are of.
+/// A scenario that was read, with the steps that come first, their text, and the files that they are of.
 #[derive(Drop)]
 pub(crate) struct Given {
     pub(crate) plan: Plan,
     pub(crate) steps: Vec<Step>,
+    pub(crate) text: Vec<u8>,
     pub(crate) files: [Option<FileNumber>; 2],
 }
 
@@ -45,17 +48,14 @@ pub(crate) fn run_files<F: Files + Threads + Wait + Sync, O: Write>(
     alloc: Global,
     run: &Run<'_>,
     out: &mut O,
-) -> Result<Done, ProgramFault>
+) -> Result<Done, Failure>
     ensures done { IfOk result (λ what. what ≡ Played) }
     ensures output { LeavesPlayed result (O.contents out.old) (O.contents out.new) }
     // The run whose report is written is that of the scenario; it begins with the steps that were read, and goes on as is
     // asked.
     ensures made { OnOk result (AppendsRun F.File.remaining run.now (O.contents out.old) (O.contents out.new)) }
     // Steps are refused only where they are named.
-    ensures steps { IfErr result (IsOfNamedSteps run.now.steps) }
-    // Two names of one file are refused where a file is to be written.
-    ensures named { IfErr result (λ fault. fault ≡ program.SameFile →
-        IsNaming run.now.log run.now.cert run.now.kept None) }
+    ensures steps { IfErr result (λ failure. IsOfNamedSteps run.now.steps failure.fault) }
 {
     let given = given_run(rt, alloc, run.scenario, run.steps)?;
     run_given(rt, alloc, run, &given, out)
@@ -69,17 +69,17 @@ fn run_given<F: Files + Threads + Wait + Sync, O: Write>(
     run: &Run<'_>,
     given: &Given,
     out: &mut O,
-) -> Result<Done, ProgramFault>
+) -> Result<Done, Failure>
     requires planned { IsPlanOfFile F.File.remaining given.now.plan }
     requires given { AreGiven F.File.remaining run.now.steps given.now.plan.names given.now.steps.items }
     ensures done { IfOk result (λ what. what ≡ Played) }
     ensures output { LeavesPlayed result (O.contents out.old) (O.contents out.new) }
     ensures made { OnOk result (AppendsRun F.File.remaining run.now (O.contents out.old) (O.contents out.new)) }
-    ensures steps { IfErr result (IsOfNamedSteps run.now.steps) }
-    ensures named { IfErr result (λ fault. fault ≡ program.SameFile →
-        IsNaming run.now.log run.now.cert run.now.kept None) }
+    ensures steps { IfErr result (λ failure. IsOfNamedSteps run.now.steps failure.fault) }
 {
     let targets = Targets {
+        read: [Some(run.scenario), run.steps, None],
+        prints: true,
         log: run.log,
         cert: run.cert,
         kept: run.kept,
@@ -98,21 +98,62 @@ fn run_into<F: Files + Threads + Wait + Sync, O: Write>(
     given: &Given,
     outputs: &mut Outputs<F::File>,
     out: &mut O,
-) -> Result<Done, ProgramFault>
+) -> Result<Done, Failure>
     requires planned { IsPlanOfFile F.File.remaining given.now.plan }
     requires given { AreGiven F.File.remaining run.now.steps given.now.plan.names given.now.steps.items }
     requires apart { AreOthers given.now.files (files_of outputs.old) }
     ensures done { IfOk result (λ what. what ≡ Played) }
     ensures output { LeavesPlayed result (O.contents out.old) (O.contents out.new) }
     ensures made { OnOk result (AppendsRun F.File.remaining run.now (O.contents out.old) (O.contents out.new)) }
-    ensures steps { IfErr result (IsOfNamedSteps run.now.steps) }
-    ensures named { IfErr result (λ fault. fault ≢ program.SameFile) }
+    ensures steps { IfErr result (λ failure. IsOfNamedSteps run.now.steps failure.fault) }
 {
     outputs.empty(&given.files)?;
     let steps = given.steps.as_slice();
     let way = way_of(run);
-    run_objects(rt, alloc, &given.plan, steps, way, outputs, out)?;
-    Ok(Done::Played)
+    let mut hindrance = None;
+    let made = run_objects(
+        rt,
+        alloc,
+        &given.plan,
+        steps,
+        way,
+        &mut hindrance,
+        outputs,
+        out,
+    );
+    match made {
+        Ok(()) => Ok(Done::Played),
+        Err(fault) => {
+            let told = told_of_run(run, given, outputs, &fault, hindrance);
+            Err(Failure {
+                fault: ProgramFault::App(fault),
+                told,
+            })
+        }
+    }
+}
+
+// What is told of a fault of a run: the step that is not enabled, or the output that could not be written.
+fn told_of_run<W>(
+    run: &Run<'_>,
+    given: &Given,
+    outputs: &Outputs<W>,
+    fault: &AppFault,
+    hindrance: Option<Hindrance>,
+) -> Told {
+    match fault {
+        AppFault::Write => outputs.told(),
+        AppFault::Run(RunFault::Step(done, StepFault::NotEnabled)) => match run.steps {
+            Some(name) => Told::step(
+                Shown::of(name.as_bytes()),
+                given.text.as_slice(),
+                *done,
+                hindrance,
+            ),
+            None => Told::Nothing,
+        },
+        _ => Told::Nothing,
+    }
 }
 
 // How a run is made that is asked for.
@@ -134,17 +175,18 @@ pub(crate) fn given_run<F: Files>(
     alloc: Global,
     scenario: &str,
     steps: Option<&str>,
-) -> Result<Given, ProgramFault>
+) -> Result<Given, Failure>
     ensures plan { IfOk result (λ given. IsPlanOfFile F.File.remaining given.plan) }
     ensures steps { IfOk result (λ given. AreGiven F.File.remaining steps.entry given.plan.names given.steps.items) }
-    ensures fault { IfErr result IsOfInput }
-    ensures named { IfErr result (IsOfNamedSteps steps.entry) }
+    ensures fault { IfErr result (λ failure. IsOfInput failure.fault) }
+    ensures named { IfErr result (λ failure. IsOfNamedSteps steps.entry failure.fault) }
 {
     let plan = scenario_in(files, alloc, scenario)?;
     let read = steps_in(files, alloc, steps, &plan.value)?;
     Ok(Given {
         plan: plan.value,
-        steps: read.value,
+        steps: read.value.steps,
+        text: read.value.text,
         files: [plan.file, read.file],
     })
 }
@@ -154,18 +196,15 @@ pub(crate) fn scenario_in<F: Files>(
     files: &F,
     alloc: Global,
     name: &str,
-) -> Result<ReadFrom<Plan>, ProgramFault>
+) -> Result<ReadFrom<Plan>, Failure>
     ensures plan { IfOk result (λ read. IsPlanOfFile F.File.remaining read.value) }
-    ensures input { IfErr result IsOfInput }
-    ensures fault { IfErr result IsNotOfSteps }
+    ensures input { IfErr result (λ failure. IsOfInput failure.fault) }
+    ensures fault { IfErr result (λ failure. IsNotOfSteps failure.fault) }
 {
-    let Ok(file) = fs::open(files, name) else {
-        return Err(ProgramFault::Read);
-    };
-    let number = number_of(&file);
+    let mut input = open_input(files, name, ProgramFault::Read)?;
     Ok(ReadFrom {
-        value: read_scenario(alloc, file)?,
-        file: number,
+        file: number_of(&input.source),
+        value: plan_of(alloc, &mut input)?,
     })
 }
 
@@ -175,23 +214,23 @@ fn steps_in<F: Files>(
     alloc: Global,
     name: Option<&str>,
     plan: &Plan,
-) -> Result<ReadFrom<Vec<Step>>, ProgramFault>
-    ensures steps { IfOk result (λ read. AreGiven F.File.remaining name.entry plan.now.names read.value.items) }
-    ensures fault { IfErr result IsOfInput }
-    ensures named { IfErr result (IsOfNamedSteps name.entry) }
+) -> Result<ReadFrom<StepsRead>, Failure>
+    ensures steps { IfOk result (λ read. AreGiven F.File.remaining name.entry plan.now.names read.value.steps.items) }
+    ensures fault { IfErr result (λ failure. IsOfInput failure.fault) }
+    ensures named { IfErr result (λ failure. IsOfNamedSteps name.entry failure.fault) }
 {
     let Some(name) = name else {
         return Ok(ReadFrom {
-            value: Vec::new(alloc),
+            value: StepsRead {
+                steps: Vec::new(alloc),
+                text: Vec::new(alloc),
+            },
             file: None,
         });
     };
-    let Ok(file) = fs::open(files, name) else {
-        return Err(ProgramFault::Read);
-    };
-    let number = number_of(&file);
+    let mut input = open_input(files, name, ProgramFault::Read)?;
     Ok(ReadFrom {
-        value: read_steps(alloc, file, plan)?,
-        file: number,
+        file: number_of(&input.source),
+        value: steps_of(alloc, &mut input, plan)?,
     })
 }

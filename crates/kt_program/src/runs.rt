@@ -12,7 +12,9 @@ ghost use Rattle.kt_plans.specs.Follows.{FollowsPlan};
 ghost use Rattle.kt_plans.specs.Headline.{IsCertified, IsPromised};
 ghost use Rattle.kt_run.specs.Faults.{Answers};
 ghost use Rattle.kt_run.specs.Orders.{IsOneRefused, IsOneStopped};
+ghost use Rattle.kt_run.specs.Refused.{IsStepRefused, IsStopped};
 ghost use Rattle.kt_run.specs.Rejections.{MayReject};
+ghost use Rattle.kt_run.specs.Runs.{IsPlayed};
 ghost use Rattle.kt_scenario.specs.Steps.{most_steps};
 ghost use Rattle.kt_scenario.specs.Written.{steps_text};
 ghost use Rattle.kt_text.specs.Writing.{WritesFront};
@@ -36,8 +38,9 @@ use kt_held::Cast;
 use kt_log_text::write_csv;
 use kt_object::{Last, Object, Recoverable, SlotBook, Sum, Tail};
 use kt_plan::{Plan, Step};
+use kt_plans::Hindrance;
 use kt_report::report_of_run;
-use kt_run::{Order, RecordedRun, RunFault, log_of, recorded_run_of};
+use kt_run::{Keep, Order, RecordedRun, RunFault, kept_run_of};
 use kt_scenario::write_steps;
 use kt_spacetime::SpaceTime;
 use kt_threads::{LiveFault, live_log_of, live_recorded_run_of};
@@ -74,6 +77,7 @@ pub(crate) fn run_objects<T: Threads + Wait + Sync, W: Write, R: Write>(
     plan: &Plan,
     steps: &[Step],
     way: Way,
+    hindrance: &mut Option<Hindrance>,
     outputs: &mut Outputs<W>,
     out: &mut R,
 ) -> Result<(), AppFault>
@@ -90,7 +94,7 @@ pub(crate) fn run_objects<T: Threads + Wait + Sync, W: Write, R: Write>(
     // A fault is one of writing, or what a run of this way meets over new objects.
     ensures fault { IfErr result (λ e. IsOfRecording e ⊎ IsFaultOverNew way plan.now steps.now e) }
 {
-    let run = new_run(rt, alloc, plan, steps, way)?;
+    let run = new_run(rt, alloc, plan, steps, way, hindrance)?;
     write_recorded(alloc, plan, &run.log, run.steps.as_slice(), outputs, out)
 }
 
@@ -101,6 +105,7 @@ fn new_run<T: Threads + Wait + Sync>(
     plan: &Plan,
     steps: &[Step],
     way: Way,
+    hindrance: &mut Option<Hindrance>,
 ) -> Result<RecordedRun, AppFault>
     ensures made { IfOk result (λ run. OverNew plan.now
         (λ cast. IsMadeAs way plan.now cast steps.now run.steps.items) run.log.rows) }
@@ -125,7 +130,7 @@ fn new_run<T: Threads + Wait + Sync>(
         }
     };
     let cast = cast_of(alloc, plan, make)?;
-    run_of(rt, alloc, plan, steps, way, cast)
+    run_of(rt, alloc, plan, steps, way, hindrance, cast)
 }
 
 // The same over objects that the plan asks for, at their opening values, which can always be saved and brought back.
@@ -135,6 +140,7 @@ fn run_of<T: Threads + Wait + Sync>(
     plan: &Plan,
     steps: &[Step],
     way: Way,
+    hindrance: &mut Option<Hindrance>,
     cast: Cast,
 ) -> Result<RecordedRun, AppFault>
     requires sizes { HasSizes plan.now.kinds plan.now.commands (map (λ row. map (λ b. kind_of b) row.items) cast.items) }
@@ -153,11 +159,11 @@ fn run_of<T: Threads + Wait + Sync>(
     ensures fault { IfErr result (IsFaultOverNew way plan.now steps.now) }
 {
     match way {
-        Way::Played => match log_of(alloc, plan, steps, cast) {
+        Way::Played => match played_cast(alloc, plan, steps, hindrance, cast) {
             Ok(log) => Ok(unkept(alloc, log)),
             Err(fault) => Err(AppFault::from(fault)),
         },
-        Way::Ordered(order) => match recorded_cast(alloc, plan, steps, order, cast) {
+        Way::Ordered(order) => match recorded_cast(alloc, plan, steps, order, hindrance, cast) {
             Ok(run) => Ok(run),
             Err(fault) => Err(AppFault::from(fault)),
         },
@@ -182,12 +188,45 @@ fn unkept(alloc: Global, log: SpaceTime) -> RecordedRun
     }
 }
 
+/// The log of a run over these objects that goes on by default steps.
+pub(crate) fn played_cast(
+    alloc: Global,
+    plan: &Plan,
+    steps: &[Step],
+    hindrance: &mut Option<Hindrance>,
+    cast: Cast,
+) -> Result<SpaceTime, RunFault>
+    ensures run { IfOk result (λ log. IsPlayed plan.now
+        (map (λ row. map (λ b. content (kind_of b) (value_of b)) row.items) cast.items) steps.now log.rows) }
+    ensures promised { IfOk result (λ log. IsPromised log.rows) }
+    ensures certified { IfOk result (λ log. IsCertified log.rows) }
+    ensures follows { IfOk result (λ log. FollowsPlan plan.now log.rows) }
+    ensures fault { IfErr result (Answers plan.now (map (λ row. map (λ b. kind_of b) row.items) cast.items)) }
+    ensures refused { IfErr result (λ fault. (done : ℕ) (why : StepFault) → fault ≡ RunFault.Step done why →
+        IsStepRefused plan.now (map (λ row. map (λ b. content (kind_of b) (value_of b)) row.items) cast.items) steps.now done why) }
+    ensures object { IfErr result (λ fault. (p : ℕ) → fault ≡ RunFault.Object p →
+        IsLeastRefused (λ b. may_save b) (λ b. may_refuse b) (map (λ row. row.items) cast.items) p
+        ⊎ (IsStopped plan.now (map (λ row. map (λ b. content (kind_of b) (value_of b)) row.items) cast.items) steps.now p
+        × MayReject (λ b saved. may_reject b saved) (slice_index plan.now.kinds p)
+        (slice_index_or (map (λ row. row.items) cast.items) p []))) }
+    ensures untold { IfErr result (λ fault. (p : ℕ) → fault ≢ RunFault.Journal p) }
+{
+    match kept_run_of(alloc, plan, steps, Order::Default, Keep::Log, cast) {
+        Ok(run) => Ok(run.log),
+        Err(stop) => {
+            *hindrance = stop.hindrance;
+            Err(stop.fault)
+        }
+    }
+}
+
 // A run over these objects, with its steps.
 fn recorded_cast(
     alloc: Global,
     plan: &Plan,
     steps: &[Step],
     order: Order,
+    hindrance: &mut Option<Hindrance>,
     cast: Cast,
 ) -> Result<RecordedRun, RunFault>
     ensures kept { IfOk result (λ run. IsKeptRun plan.now
@@ -214,7 +253,13 @@ fn recorded_cast(
     kt_plans::told_of_runs();
     kt_run::one_run();
     kt_scenario::steps_are_read_back();
-    recorded_run_of(alloc, plan, steps, order, cast)
+    match kept_run_of(alloc, plan, steps, order, Keep::Steps, cast) {
+        Ok(run) => Ok(run),
+        Err(stop) => {
+            *hindrance = stop.hindrance;
+            Err(stop.fault)
+        }
+    }
 }
 
 // A run in threads over these objects, with its steps.

@@ -1,10 +1,8 @@
 //! The words of a command line.
 
-ghost use Rattle.std.specs.Prelude.{◌≡◌, [], ◌∷◌, ◌++◌, map, string_bytes, OnOk, OnErr, IsTrue, ◌↔◌, slice_index_or};
-ghost use Rattle.kt_program.specs.Hints.{AskForHints};
+ghost use Rattle.std.specs.Prelude.{◌≡◌, [], ◌∷◌, ◌++◌, map, string_bytes, OnOk, OnErr};
 
 use kt_base::Memory;
-use kt_hints::push_shown;
 use std::alloc::Global;
 use std::marker::Model;
 
@@ -51,39 +49,8 @@ impl Words {
         self.list.as_slice()
     }
 
-    /// Whether the words ask for what is told below a fault: `--hints` stands before the command.
-    pub(crate) fn ask_for_hints(&self) -> bool
-        ensures { IsTrue result ↔ AskForHints self.now }
-    {
-        matches!(self.second(), "--hints")
-    }
-
-    // The word behind the program's name, or an empty one.
-    fn second(&self) -> &str
-        ensures { result.now ≡ slice_index_or self.now 1 [] }
-    {
-        match self.list().get(1) {
-            Some(word) => word.as_str(),
-            None => "",
-        }
-    }
-
-    /// The words as they are shown to a person.
-    pub(crate) fn shown(&self) -> Result<Words, Memory> {
-        let mut words = Words::new(self.alloc);
-        for word in self.list.as_slice() {
-            words.push_shown(word.as_str())?;
-        }
-        Ok(words)
-    }
-
-    // Adds a word as it is shown.
-    fn push_shown(&mut self, word: &str) -> Result<(), Memory> {
-        let mut shown = Vec::new(self.alloc);
-        push_shown(&mut shown, word.as_bytes())?;
-        match str::from_utf8(shown.as_slice()) {
-            Ok(text) => self.push(text),
-            Err(_) => Ok(()),
-        }
+    /// Whether the words ask for what is told below a fault's line: `--hints` stands among them.
+    pub(crate) fn ask_for_hints(&self) -> bool {
+        self.list().iter().any(|word| word.as_str() == "--hints")
     }
 }

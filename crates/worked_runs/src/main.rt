@@ -51,6 +51,7 @@ use made::show_many;
 use running::show_runs;
 use sources::show_sources;
 use std::io;
+use std::os::fd::AsRawFd;
 use std::process::ExitCode;
 use stepping::show_stepped;
 use system_words::show_lines;
@@ -67,7 +68,10 @@ fn show_all_runs<R: Host>(rt: &R, left: &mut Left) -> io::Result<()> {
 }
 
 // Shows what the program writes of other texts and command lines, and of faults.
-fn show_all_answers<R: Host>(rt: &R, left: &mut Left) -> io::Result<()> {
+fn show_all_answers<R: Host>(rt: &R, left: &mut Left) -> io::Result<()>
+where
+    R::File: AsRawFd,
+{
     show_answers(rt, "answers.txt")?;
     show_beginnings(rt, "a-rollback-through-three")?;
     show_list(rt, &List::Commands, "lines.txt", left)?;

@@ -1,4 +1,4 @@
 use Rattle.kt_program.proofs.ask.switched_command.Goals as goal
 
 pub returns : goal.returns
-returns c = c.with_arg.ensures _ _ c.bare_command.ensures c.plain_switch.ensures
+returns c = c.with_hints.ensures _ c.bare_command.ensures

@@ -1,16 +1,10 @@
-use Rattle.std.proofs.Common.{map}
+use Rattle.std.proofs.Common.{map, refl}
 use Rattle.kt_held.specs.Holdings.{content}
 use Rattle.kt_program.proofs.KeptRuns.{kept_run}
-use Rattle.kt_program.proofs.OrderedRuns.{if_ok_both}
 use Rattle.kt_program.proofs.runs.recorded_cast.Goals as goal
 
-pub returns-clause-kept : goal.returns-clause-kept
-returns-clause-kept g c = if_ok_both c.recorded_run_of.result _ _ _
-    (λ run o promised. kept_run (record { next = c.progress_of_runs.ensures.next; none = c.steps_of_runs.ensures.none; of_another = c.steps_of_runs.ensures.of_another; exactly = c.never_stuck.ensures.exactly; log = c.told_of_runs.ensures.log; ends = c.one_run.ensures.ends }) c.args.plan.now (map (λ row. map (λ b. content ((goal.Recoverable-dyn g (b.vtable, b.value)).kind_of b.value) ((goal.Recoverable-dyn g (b.vtable, b.value)).value_of b.value)) row.items) c.args.cast.items)
-    c.size-processes.ensures.plan c.args.steps.now c.args.order run.steps.items run.log.rows c.steps_are_read_back.ensures o (c.certificates_of_promised_logs.ensures.certified run.log.rows promised))
-    c.recorded_run_of.ensures.run c.recorded_run_of.ensures.promised
-
-pub returns-clause-certified : goal.returns-clause-certified
-returns-clause-certified g c = if_ok_both c.recorded_run_of.result _ _ _
-    (λ run o promised. c.certificates_of_promised_logs.ensures.certified run.log.rows promised)
-    c.recorded_run_of.ensures.run c.recorded_run_of.ensures.promised
+pub returns-in-Ok-clause-kept : goal.returns-in-Ok-clause-kept
+returns-in-Ok-clause-kept g c =
+    let run = c.in-Ok.run' in
+    kept_run (record { next = c.progress_of_runs.ensures.next; none = c.steps_of_runs.ensures.none; of_another = c.steps_of_runs.ensures.of_another; exactly = c.never_stuck.ensures.exactly; log = c.told_of_runs.ensures.log; ends = c.one_run.ensures.ends }) c.args.plan.now (map (λ row. map (λ b. content ((goal.Recoverable-dyn g (b.vtable, b.value)).kind_of b.value) ((goal.Recoverable-dyn g (b.vtable, b.value)).value_of b.value)) row.items) c.args.cast.items)
+    c.size-processes.ensures.plan c.args.steps.now c.args.order run.steps.items run.log.rows c.steps_are_read_back.ensures (c.in-Ok.ensures.run refl) c.in-Ok.ensures.certified

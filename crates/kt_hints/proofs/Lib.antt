@@ -1,4 +1,0 @@
-pub mod Gathering
-pub mod Printable
-pub mod RecordFacts
-pub mod RowFacts

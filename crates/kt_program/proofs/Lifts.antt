@@ -1,0 +1,97 @@
+-- What is done for words that ask for it, or refused.
+use Rattle.std.proofs.Common.{◌≡◌, ◌≢◌, ◌⊎◌, List, inl, inr, refl, subst, sym}
+use Rattle.std.specs.Prelude.{Result, Ok, Err, Some, None, IfOk, IfErr, OnOk}
+use Rattle.clap.specs.Words.{Text, subcommand_of}
+use Rattle.kt_program.specs.declared.ending.Done.{Done}
+use Rattle.kt_program.specs.declared.ending.Done.TheVariants.{Drawn, Played}
+use Rattle.kt_program.specs.declared.fault.AppFault.TheVariants as app
+use Rattle.kt_program.specs.declared.fault.Failure.{Failure}
+use Rattle.kt_program.specs.declared.fault.ProgramFault.{ProgramFault}
+use Rattle.kt_program.specs.declared.fault.ProgramFault.TheVariants as program
+use Rattle.kt_program.specs.declared.line.Asked.{Asked}
+use Rattle.kt_program.specs.declared.line.Drawing.{Drawing}
+use Rattle.kt_program.specs.declared.line.Run.{Run}
+use Rattle.kt_program.specs.Asking.{Ask, DoneFor, EndsFor, IsDraw, IsOfRun, IsOfScenario, IsOfSteps, RefusedFor}
+use Rattle.kt_program.specs.Drawn.{DrawsTo, IsOfDrawing}
+use Rattle.kt_program.specs.Ending.{AppendsRun, DrawnFor, DrawsFor, IsInText, IsOfJudging, IsOfNamedSteps, IsTextAsked, LeavesOutput, LeavesPlayed, PlayedFor, Plays}
+use Rattle.kt_program.specs.Names.{IsApart, IsNamed, Name}
+use Rattle.kt_program.specs.Program.{NamesAsked, program as definition}
+use Rattle.kt_program.specs.Stored.{BytesTold}
+
+named_steps : (name : Name) (fault : _) → IsOfNamedSteps name (program.Steps fault) → IsNamed name
+named_steps None fault of = absurd of
+named_steps (Some name) fault of = tt
+
+module _ (words : List Text) (asked : Asked) (named : NamesAsked (subcommand_of definition words) asked) (apart : IsApart asked) where
+  pub asks : (P : Asked → Type 0) → P asked → Ask words P
+  asks P p = (asked, named, apart, p)
+
+  -- a run is refused
+  run_refused : (name : Name) (fault : ProgramFault) → IsOfScenario asked → (IsNamed name → IsOfSteps asked) → fault ≢ program.Line → IsOfNamedSteps name fault → RefusedFor words fault
+  run_refused name program.Line scenario steps other of = absurd (other refl)
+  run_refused name program.SameFile scenario steps other of = (asked, named, apart, tt)
+  run_refused name (program.Scenario fault) scenario steps other of = (asked, named, apart, scenario)
+  run_refused name (program.Steps fault) scenario steps other of = (asked, named, apart, steps (named_steps name fault of))
+  run_refused name program.Read scenario steps other of = (asked, named, apart, scenario)
+  run_refused name (program.App fault) scenario steps other of = tt
+
+  pub run_ends : (name : Name) (old new : BytesTold) (result : Result Done Failure) → IsOfRun asked → IsOfScenario asked → (IsNamed name → IsOfSteps asked)
+      → IfOk result (λ what. what ≡ Played) → LeavesPlayed result old new → IfErr result (λ failure. IsOfNamedSteps name failure.fault) → EndsFor words result
+  run_ends name old new (Ok what) run scenario steps done leaves of = subst (DoneFor words) (sym done) (asked, named, apart, run)
+  run_ends name old new (Err failure) run scenario steps done leaves of = run_refused name failure.fault scenario steps leaves.0 of
+
+  -- what it leaves of standard output
+  run_left : (old new : BytesTold) (fault : ProgramFault) → IsOfRun asked → (fault ≢ program.App app.Write → fault ≢ program.App app.Memory → new ≡ old) → fault ≢ program.App app.Write
+      → (new ≡ old) ⊎ IsInText words fault
+  run_left old new (program.App app.Memory) run left w = inr (refl, (asked, named, apart, inl run))
+  run_left old new program.Line run left w = inl (left w (λ e. cc (e)))
+  run_left old new program.SameFile run left w = inl (left w (λ e. cc (e)))
+  run_left old new (program.Scenario fault) run left w = inl (left w (λ e. cc (e)))
+  run_left old new (program.Steps fault) run left w = inl (left w (λ e. cc (e)))
+  run_left old new program.Read run left w = inl (left w (λ e. cc (e)))
+  run_left old new (program.App app.Write) run left w = absurd (w refl)
+  run_left old new (program.App app.RecordTooLong) run left w = inl (left w (λ e. cc (e)))
+  run_left old new (program.App (app.Log fault)) run left w = inl (left w (λ e. cc (e)))
+  run_left old new (program.App (app.Cert fault)) run left w = inl (left w (λ e. cc (e)))
+  run_left old new (program.App (app.Run fault)) run left w = inl (left w (λ e. cc (e)))
+  run_left old new (program.App (app.Live fault)) run left w = inl (left w (λ e. cc (e)))
+  run_left old new (program.App (app.Uncertified fault)) run left w = inl (left w (λ e. cc (e)))
+  run_left old new (program.App (app.Unfit fault)) run left w = inl (left w (λ e. cc (e)))
+  run_left old new (program.App (app.Picture fault)) run left w = inl (left w (λ e. cc (e)))
+
+  pub run_leaves : (old new : BytesTold) (result : Result Done Failure) → IsOfRun asked → IfOk result (λ what. what ≡ Played) → LeavesPlayed result old new → LeavesOutput words result old new
+  run_leaves old new (Ok what) run done leaves = rw done leaves
+  run_leaves old new (Err failure) run done leaves = run_left old new failure.fault run leaves.1
+
+  pub run_played : {F : Type 0} (told : F → BytesTold) (old new : BytesTold) (run : Run) (result : Result Done Failure) → (AppendsRun told run old new → Plays told old new asked)
+      → IfOk result (λ what. what ≡ Played) → OnOk result (AppendsRun told run old new) → IfOk result (PlayedFor words told old new)
+  run_played told old new run (Ok what) plays done made = rw done (asked, named, apart, plays made)
+  run_played told old new run (Err failure) plays done made = tt
+
+  -- a stored run is not judged
+  pub unjudged : (fault : ProgramFault) → IsOfJudging fault → RefusedFor words fault
+  unjudged program.SameFile of = (asked, named, apart, tt)
+  unjudged (program.App fault) of = tt
+  unjudged program.Line of = absurd of
+  unjudged (program.Scenario fault) of = absurd of
+  unjudged (program.Steps fault) of = absurd of
+  unjudged program.Read of = absurd of
+
+  -- a log is drawn, or not
+  undrawn : (name : Name) (fault : ProgramFault) → (IsNamed name → IsOfScenario asked) → IsOfDrawing name fault → RefusedFor words fault
+  undrawn name program.SameFile scenario of = (asked, named, apart, tt)
+  undrawn name (program.App fault) scenario of = tt
+  undrawn name (program.Scenario fault) scenario of = (asked, named, apart, scenario of)
+  undrawn name program.Read scenario of = (asked, named, apart, scenario of)
+  undrawn name program.Line scenario of = absurd of
+  undrawn name (program.Steps fault) scenario of = absurd of
+
+  pub draw_ends : (name : Name) (result : Result Done Failure) → IsDraw asked → (IsNamed name → IsOfScenario asked) → IfOk result (λ what. what ≡ Drawn)
+      → IfErr result (λ failure. IsOfDrawing name failure.fault) → EndsFor words result
+  draw_ends name (Ok what) draw scenario done of = subst (DoneFor words) (sym done) (asked, named, apart, draw)
+  draw_ends name (Err failure) draw scenario done of = undrawn name failure.fault scenario of
+
+  pub draw_drawn : {F : Type 0} (told : F → BytesTold) (old new : BytesTold) (drawing : Drawing) (result : Result Done Failure) → (DrawsTo told drawing old new → DrawsFor told old new asked)
+      → IfOk result (λ what. what ≡ Drawn) → OnOk result (DrawsTo told drawing old new) → IfOk result (DrawnFor words told old new)
+  draw_drawn told old new drawing (Ok what) draws done drawn = rw done (asked, named, apart, draws drawn)
+  draw_drawn told old new drawing (Err failure) draws done drawn = tt
