@@ -7,3 +7,4 @@ pub mod Ready
 pub mod FaultTexts
 pub mod Choices
 pub mod Priorities
+pub mod Looked

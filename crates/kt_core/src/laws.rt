@@ -1,9 +1,13 @@
 //! Laws of worlds; there is nothing to run.
 
 ghost use Rattle.std.specs.Prelude.{◌≡◌, ℕ, true};
+ghost use Rattle.kt_plan.specs.Limits.{IsPlan, Planned};
 ghost use Rattle.kt_plan.specs.declared.steps.Step.{Step};
+ghost use Rattle.kt_plans.specs.Looks.{look};
 ghost use Rattle.kt_plans.specs.Progress.{Progress};
+ghost use Rattle.kt_plans.specs.Runs.{RunReaches};
 ghost use Rattle.kt_plans.specs.Steps.{enabled, is_at_rest};
+ghost use Rattle.kt_core.specs.Looked.{TellsOfStep};
 ghost use Rattle.kt_core.specs.PlanLaws.{PlanLaws};
 ghost use Rattle.kt_core.specs.Shown.{Mirrors};
 ghost use Rattle.kt_core.specs.Worlds.{World, IsSameWorld, IsWorldAtRest, can_make};
@@ -40,4 +44,13 @@ pub(crate) fn laws_of_runs()
     kt_plans::tallies_of_runs();
     // what an object holds is a list of numbers, and so is an array to a clause
     kt_plans::values_of_runs::<[i64; 1]>();
+}
+
+/// What a look tells of runs: what its step saves and sends, what of a `Give` counts, and that it waits for others.
+pub(crate) fn laws_of_looks()
+    ensures { (plan : Planned) (first : ℕ) (v : Progress) (step : Step) → IsPlan plan → RunReaches plan first v →
+        TellsOfStep plan v step (look plan v step) }
+{
+    kt_plans::rows_of_runs();
+    kt_plans::steps_of_runs();
 }

@@ -11,12 +11,13 @@ ghost use Rattle.kt_plans.specs.Looks.{look};
 ghost use Rattle.kt_plans.specs.Defaults.{default_step};
 ghost use Rattle.kt_core.specs.Agendas.{open_command};
 ghost use Rattle.kt_core.specs.Choices.{HasNoOthers};
+ghost use Rattle.kt_core.specs.Looked.{TellsOfStep};
 ghost use Rattle.kt_core.specs.Ready.{IsReady};
 ghost use Rattle.kt_core.specs.Shown.{Mirrors};
 
 use super::World;
 use crate::faults::StepFault;
-use crate::laws::laws_of_runs;
+use crate::laws::{laws_of_looks, laws_of_runs};
 use crate::ready::Ready;
 use kt_base::{ProcNo, ProcSet};
 use kt_plan::{Command, Job, Look, Step};
@@ -84,8 +85,13 @@ impl World {
         ensures look { result ≡ needs self.now step.now }
         ensures in_runs { (first : ℕ) (v : Progress) → Mirrors self.now.agenda self.now.system first v →
             result ≡ look self.now.agenda.plan v step.now }
+
+        // It tells what the step saves and sends, and what of a `Give` counts, also after moves of other processes.
+        ensures tells { (first : ℕ) (v : Progress) → Mirrors self.now.agenda self.now.system first v →
+            TellsOfStep self.now.agenda.plan v step.now result }
     {
         laws_of_runs();
+        laws_of_looks();
         if !self.enabled(step) {
             return Look::Idle;
         }
