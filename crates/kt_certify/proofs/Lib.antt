@@ -33,3 +33,4 @@ pub mod ShortLists
 pub mod NamedMessages
 pub mod WholePass
 pub mod FirstArrivals
+pub mod Meant

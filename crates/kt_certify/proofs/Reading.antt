@@ -18,6 +18,7 @@ use Rattle.kt_certify.specs.Streamed.{AreRowsOf, AreCertified}
 use Rattle.kt_certify.specs.declared.fault.Unfit.{Unfit}
 use Rattle.kt_certify.specs.declared.pass.Pass.{Pass}
 use Rattle.kt_certify.proofs.Fit.{fit_so_far}
+use Rattle.kt_certify.proofs.Meant.{all_meant}
 use Rattle.kt_certify.proofs.Whole.{all_certified, writable, says}
 
 -- what is known while rows are read: these were, and the pass has seen them
@@ -71,6 +72,7 @@ certified_at old new pass list h s none found =
       said = rows_of old new h.seen h.gathers s;
       fit = record { legal = fit.walk.control.legal; chained = fit.chained };
       certificates = all_certified pass h.seen list fit found;
+      meant = all_meant pass h.seen list fit found;
     }
 
 pub unfit_at : {source : Option (List ℕ)} (old new : RowsRead) (pass : Pass) (why : Unfit) → HasRead source old pass → MeetsEnd old new → pass.unfit ≡ Some why

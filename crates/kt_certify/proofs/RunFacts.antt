@@ -11,13 +11,15 @@ use Rattle.kt_certify.specs.Certificates.{certificates}
 use Rattle.kt_cuts.specs.Legal.{IsLegal}
 use Rattle.kt_cuts.proofs.LegalLogs.{legal_take}
 use Rattle.kt_checker.proofs.Answering.{no_broken}
-use Rattle.kt_certify.specs.Faults.{HasNoChain, IsUnfit}
+use Rattle.kt_certify.specs.Faults.{HasNoChain, IsFitLog, IsUnfit}
 use Rattle.kt_certify.specs.Instances.{InstanceParts, AreInstancesOf}
+use Rattle.kt_certify.specs.Meant.{AreMeant}
 use Rattle.kt_certify.specs.PassOf.{KeepsFit, PassOf}
 use Rattle.kt_certify.specs.declared.fault.Unfit.{Unfit}
 use Rattle.kt_certify.specs.declared.fault.Unfit.TheVariants.{BadLog, NoChain}
 use Rattle.kt_certify.specs.declared.pass.Pass.{Pass}
 use Rattle.kt_certify.proofs.Fit.{fit_so_far}
+use Rattle.kt_certify.proofs.Meant.{are_meant}
 use Rattle.kt_certify.proofs.PassSteps.{listed_of}
 use Rattle.kt_certify.proofs.Ranges.{text_says}
 use Rattle.kt_certify.proofs.ShortLists.{short_chains}
@@ -44,6 +46,10 @@ module _ (log : List Event) (es : List InstanceParts) (list : List Certificate) 
   -- are those of the log
   pub are_certificates : list ≡ certificates log
   are_certificates = found ∙ listed_of log es h
+
+  -- and what it means, where it is fit
+  pub are_as_meant : IsFitLog log → AreMeant log list
+  are_as_meant fit = subst (AreMeant log) (sym are_certificates) (are_meant log fit)
 
   -- they can be written
   pub are_short : IsLegal log → All IsRowInRange log → All HasShortChains list

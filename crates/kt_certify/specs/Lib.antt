@@ -14,3 +14,4 @@ pub mod Making
 pub mod Just
 pub mod OnePass
 pub mod Arriving
+pub mod Meant

@@ -7,6 +7,7 @@ use Rattle.kt_chain.specs.declared.certificate.Certificate.{Certificate}
 use Rattle.kt_checker.specs.Streamed.{SaysRows}
 use Rattle.kt_certify.specs.Certificates.{certificates}
 use Rattle.kt_certify.specs.Faults.{IsFitLog, IsUnfit}
+use Rattle.kt_certify.specs.Meant.{AreMeant}
 use Rattle.kt_certify.specs.declared.fault.StreamFault.{StreamFault}
 use Rattle.kt_certify.specs.declared.fault.StreamFault.TheVariants.{Log, Unfit}
 
@@ -15,12 +16,13 @@ pub record AreRowsOf (bytes : Option (List ℕ)) (rows : List Event) : Type 0 wh
   pub says : SaysRows bytes rows
   pub only : IfSome (rows_unread bytes).left (λ text. (others : List Event) → IsLogText text others → others ≡ rows)
 
--- these are the certificates of the rows that the bytes say, which are fit
+-- these are the certificates of the rows that the bytes say, which are fit, and what these rows mean
 pub record AreCertified (bytes : Option (List ℕ)) (list : List Certificate) : Type 0 where
   pub rows : List Event
   pub said : AreRowsOf bytes rows
   pub fit : IsFitLog rows
   pub certificates : list ≡ certificates rows
+  pub meant : AreMeant rows list
 
 -- a fault of the bytes: the first of their text, or why the rows that they say are not fit
 abbrev pub IsFaultOfBytes : Option (List ℕ) → StreamFault → Type 0

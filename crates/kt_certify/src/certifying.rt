@@ -6,6 +6,7 @@ ghost use Rattle.kt_chain.specs.Spelling.{HasShortChains, records_of};
 ghost use Rattle.kt_chain.specs.Texts.{IsCertText};
 ghost use Rattle.kt_certify.specs.Certificates.{certificates};
 ghost use Rattle.kt_certify.specs.Faults.{HasNoChain, IsFaultOf, IsWhyUnfit};
+ghost use Rattle.kt_certify.specs.Meant.{AreMeant};
 
 use crate::fault::CertFault;
 use crate::pass::Pass;
@@ -21,11 +22,14 @@ use std::alloc::Global;
 ///
 /// Of a log that has several faults a broken rule is answered, the first; else the first member without a chain.
 pub fn certify(alloc: Global, log: &SpaceTime) -> Result<Vec<Certificate>, CertFault>
-    // The certificates are those of the log, which is legal and has no member without a chain,
+    // The certificates are those of the log, which is legal and has no member without a chain.
     ensures certificates { IfOk result (λ list. list.items ≡ certificates log.now.rows) }
     ensures legal { IfOk result (λ list. IsLegal log.now.rows) }
     ensures chained { IfOk result (λ list. (k p : ℕ) → HasNoChain log.now.rows k p → ⊥) }
-    // and they can be written, and what is written says them.
+    // They are what it means: one for each decided instance, as the log has it, by rising number; a committed one has
+    // the members in the order in which they joined, each with its chain.
+    ensures meant { IfOk result (λ list. AreMeant log.now.rows list.items) }
+    // They can be written, and what is written says them.
     ensures short { IfOk result (λ list. All HasShortChains list.items) }
     ensures text { IfOk result (λ list. IsCertText (records_of list.items) list.items) }
     // Each fault is one of the log.

@@ -1,8 +1,9 @@
 //! The certificates of a log, by one pass over its rows; laws say what they are, and when they pass.
 //!
 //! **What to change where:** a list of rows `certifying.rt`, those of a run `runs.rt`, a text `streaming.rt`; row by
-//! row `pass.rt`, one instance `instance.rt`; a member's chain `chains.rt`; `fault.rt`; `laws.rt`, and in their words
-//! how a chain is made `specs/Making`, one pass `specs/OnePass`, what a walk knows of links `specs/Arriving`.
+//! row `pass.rt`, one instance `instance.rt`; a member's chain `chains.rt`; `fault.rt`; what certificates mean is
+//! `specs/Meant`; `laws.rt`, and in their words how a chain is made `specs/Making`, one pass `specs/OnePass`, what a
+//! walk knows of links `specs/Arriving`.
 #![tactic(auto)]
 
 mod certifying;

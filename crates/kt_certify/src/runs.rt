@@ -9,6 +9,7 @@ ghost use Rattle.kt_certify.specs.Certificates.{certificates};
 ghost use Rattle.kt_certify.specs.Decisions.{is_commit};
 ghost use Rattle.kt_certify.specs.Faults.{HasNoChain};
 ghost use Rattle.kt_certify.specs.Instances.{AreInstancesOf};
+ghost use Rattle.kt_certify.specs.Meant.{AreMeant};
 ghost use Rattle.kt_walk.specs.WalkOf.{WalkOf};
 
 use crate::pass::Pass;
@@ -25,7 +26,9 @@ use std::alloc::Global;
 pub fn certificates_of_run(alloc: Global, log: &SpaceTime) -> Result<Vec<Certificate>, Memory>
     requires legal { IsLegal log.now.rows }
     requires chained { (k p : ℕ) → HasNoChain log.now.rows k p → ⊥ }
+    // They are those of the log, and what it means.
     ensures certificates { IfOk result (λ list. list.items ≡ certificates log.now.rows) }
+    ensures meant { IfOk result (λ list. AreMeant log.now.rows list.items) }
     // They can be written, and what is written says them.
     ensures short { IfOk result (λ list. All HasShortChains list.items) }
     ensures text { IfOk result (λ list. IsCertText (records_of list.items) list.items) }

@@ -25,7 +25,8 @@ pub fn certify_stream<R: Read + Drop>(
     alloc: Global,
     log_reader: R,
 ) -> Result<Vec<Certificate>, StreamFault>
-    // Where the reader tells its bytes, the certificates are those of the rows that these say, which are fit,
+    // Where the reader tells its bytes, the certificates are those of the rows that these say, which are fit, and what
+    // these rows mean,
     ensures certificates { IfOk result (λ list. AreCertified (R.remaining log_reader) list.items) }
     // and they can be written, and what is written says them.
     ensures short { IfOk result (λ list. All HasShortChains list.items) }

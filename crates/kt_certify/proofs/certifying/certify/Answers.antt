@@ -4,6 +4,7 @@ use Rattle.kt_cuts.proofs.Items.{take_item}
 use Rattle.kt_cuts.proofs.Replayed.{row_read}
 use Rattle.kt_certify.specs.PassOf.{PassOf}
 use Rattle.kt_certify.proofs.Fit.{fit_so_far}
+use Rattle.kt_certify.proofs.Meant.{all_meant}
 use Rattle.kt_certify.proofs.Whole.{unfit_fault, why_unfit, all_certified, writable, says}
 use Rattle.kt_certify.proofs.certifying.certify.Goals as goal
 
@@ -46,6 +47,13 @@ returns-clause-chained c =
     let whole = subst (PassOf c.loop-row.pass) (take_all c.loop-row.row-index rows c.loop-row-test.false) c.loop-row.invariant in
     let fit = fit_so_far c.loop-row.pass rows whole (sym c.unfit.ensures ∙ c.in-None.is) in
     rw (← c.rows-row-items.ensures.rows) (fit.chained)
+
+pub returns-clause-meant : goal.returns-clause-meant
+returns-clause-meant c =
+    let rows = c.rows-row-items.result.now in
+    let whole = subst (PassOf c.loop-row.pass) (take_all c.loop-row.row-index rows c.loop-row-test.false) c.loop-row.invariant in
+    let fit = fit_so_far c.loop-row.pass rows whole (sym c.unfit.ensures ∙ c.in-None.is) in
+    rw (← c.rows-row-items.ensures.rows) (all_meant c.loop-row.pass rows c.in_ok-found-in-None.field-0.items fit c.in_ok-found-in-None.ensures)
 
 pub returns-clause-short : goal.returns-clause-short
 returns-clause-short c =

@@ -2,7 +2,8 @@ use Rattle.std.proofs.Common.{sym, subst}
 use Rattle.std.proofs.lemmas.Result.{IfOk-weaker}
 use Rattle.kt_cuts.specs.Legal.{IsLegal}
 use Rattle.kt_cuts.proofs.LegalLogs.{legal_take}
-use Rattle.kt_certify.proofs.RunFacts.{fit_in_front, are_certificates, are_short, are_said}
+use Rattle.kt_certify.specs.Faults.{IsFitLog}
+use Rattle.kt_certify.proofs.RunFacts.{fit_in_front, are_certificates, are_as_meant, are_short, are_said}
 use Rattle.kt_certify.proofs.runs.certificates_of_run.Goals as goal
 
 pub feed_all-requires-clause-walk : goal.feed_all-requires-clause-walk
@@ -20,6 +21,12 @@ pub returns-clause-certificates : goal.returns-clause-certificates
 returns-clause-certificates c =
     let rows = c.rows-rows.result.now in
     rw (← c.rows-rows.ensures.rows) (IfOk-weaker c.found.result _ _ (λ list found. are_certificates rows _ list.items c.in_ok-note_from.ensures found) c.found.ensures)
+
+pub returns-clause-meant : goal.returns-clause-meant
+returns-clause-meant c =
+    let rows = c.rows-rows.result.now in
+    let fit = subst IsFitLog (sym c.rows-rows.ensures.rows) (record { legal = c.requires.legal; chained = c.requires.chained }) in
+    rw (← c.rows-rows.ensures.rows) (IfOk-weaker c.found.result _ _ (λ list found. are_as_meant rows _ list.items c.in_ok-note_from.ensures found fit) c.found.ensures)
 
 pub returns-clause-short : goal.returns-clause-short
 returns-clause-short c =
