@@ -118,6 +118,44 @@ impl fmt::Display for ScenarioFault {
 
 impl Error for ScenarioFault {}
 
+impl ScenarioFault {
+    /// The number of the line that is refused, from 1; None where the fault is in no line.
+    pub fn line(&self) -> Option<usize> {
+        match self {
+            ScenarioFault::TooLong | ScenarioFault::Memory => None,
+            ScenarioFault::Command(line)
+            | ScenarioFault::Words(line)
+            | ScenarioFault::Name(line)
+            | ScenarioFault::Twice(line)
+            | ScenarioFault::KindWord(line)
+            | ScenarioFault::TooManyObjects(line)
+            | ScenarioFault::Unknown(line)
+            | ScenarioFault::Itself(line)
+            | ScenarioFault::Number(line)
+            | ScenarioFault::TooManyCommands(line) => Some(*line),
+        }
+    }
+
+    /// What a line has to be that is refused so, in words; empty where the fault's own text says it.
+    pub fn expected(&self) -> &'static str {
+        match self {
+            ScenarioFault::Command(_) =>
+                "a line begins with object, send, checkpoint, rollback, fail or settle",
+            ScenarioFault::Words(_) =>
+                "expected: object NAME KIND, send A B BODY, checkpoint A, rollback A, fail A or settle",
+            ScenarioFault::Name(_) =>
+                "a name has 1 to 16 of a to z, 0 to 9 and _, and begins with a letter",
+            ScenarioFault::KindWord(_) => "a kind is sum, last or tail",
+            ScenarioFault::Unknown(_) => "a name has an object line above the line that uses it",
+            ScenarioFault::Number(_) =>
+                "a body is . or a whole number of 64 bits, without a leading zero",
+            ScenarioFault::TooManyObjects(_) => "a scenario has at most 64 objects",
+            ScenarioFault::TooManyCommands(_) => "a scenario has at most 4096 commands",
+            _ => "",
+        }
+    }
+}
+
 /// Why a text of steps was refused: the first thing wrong, with its line. Lines are numbered from 1.
 #[derive(Clone, Copy, Debug, PartialEq, Eq)]
 pub enum StepsFault {
@@ -157,6 +195,29 @@ impl fmt::Display for StepsFault {
 }
 
 impl Error for StepsFault {}
+
+impl StepsFault {
+    /// The number of the line that is refused, from 1; None where the fault is in no line.
+    pub fn line(&self) -> Option<usize> {
+        match self {
+            StepsFault::TooLong | StepsFault::Memory => None,
+            StepsFault::Command(line)
+            | StepsFault::Words(line)
+            | StepsFault::Unknown(line)
+            | StepsFault::Itself(line)
+            | StepsFault::TooMany(line) => Some(*line),
+        }
+    }
+
+    /// What a line has to be that is refused so, in words; empty where the fault's own text says it.
+    pub fn expected(&self) -> &'static str {
+        match self {
+            StepsFault::Command(_) | StepsFault::Words(_) => "expected: do A or take AT FROM",
+            StepsFault::Unknown(_) => "no object line of the scenario has this name",
+            _ => "",
+        }
+    }
+}
 
 impl LineFault {
     /// The fault of a scenario in whose line of this number it is.
