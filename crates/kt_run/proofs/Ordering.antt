@@ -16,7 +16,8 @@ use Rattle.kt_core.specs.declared.faults.StepFault.{StepFault}
 use Rattle.kt_run.specs.Objects.{rules_by}
 use Rattle.kt_run.specs.Refused.{IsGivenNext, IsDefaultNext, IsStepRefused, IsStopped}
 use Rattle.kt_run.specs.declared.recorded.Keep.{Keep}
-use Rattle.kt_run.specs.Orders.{Generator, step_in_order, generator_next, generator_after, AreInOrder, GoesInOrder, AreListed, RestsInOrder, IsNextInOrder, IsNext, IsRefusedInOrder, IsStoppedInOrder, IsOneRefused, IsOneStopped}
+use Rattle.kt_run.specs.declared.recorded.Keep.TheVariants.{Log, Steps}
+use Rattle.kt_run.specs.Orders.{Generator, step_in_order, generator_next, generator_after, AreInOrder, GoesInOrder, kept_steps, RestsInOrder, IsNextInOrder, IsNext, IsRefusedInOrder, IsStoppedInOrder, IsOneRefused, IsOneStopped}
 use Rattle.kt_run.specs.Runs.{ToldAndHeld, StepsTo, BeginsRun, Goes}
 use Rattle.kt_run.specs.RunLaws.{RunLaws}
 use Rattle.kt_run.specs.Telling.{AreToldInRun}
@@ -79,21 +80,26 @@ in_order_more laws plan cast given steps g now next x old new before after e o s
       generator = moved ∙ sym more.1;
     }
 
--- a run goes so far in an order, by so many steps, at least so many of them after those given; if steps are kept, all are listed
+-- what is listed of some steps and then of others is what is listed of all
+kept_more : (keep : Keep) (first more : List Step) → kept_steps keep first ++ kept_steps keep more ≡ kept_steps keep (first ++ more)
+kept_more Log first more = refl
+kept_more Steps first more = refl
+
+-- a run goes so far in an order, by so many steps, at least so many of them after those given; these are listed of them
 pub record GoesSoFar (plan : Planned) (cast : List (List Content)) (given : List Step) (was now : Option Generator) (keep : Keep) (listed : List Step) (done more : ℕ) (world : World) (at : ToldAndHeld) : Type 0 where
   pub steps : List Step
   pub goes : GoesInOrder plan cast given steps was now world at
-  pub all : AreListed keep listed steps
+  pub kept : listed ≡ kept_steps keep steps
   pub count : done ≡ length steps
   pub many : more ≤ length steps
 
 module _ (laws : RunLaws) (plan : Planned) (cast : List (List Content)) (given : List Step) (was : Option Generator) (keep : Keep) where
-  pub so_far_start : (now : Option Generator) (listed : List Step) (done : ℕ) (w : World) (at : ToldAndHeld) → now ≡ was → BeginsRun plan cast given w at → AreListed keep listed given → done ≡ length given
+  pub so_far_start : (now : Option Generator) (listed : List Step) (done : ℕ) (w : World) (at : ToldAndHeld) → now ≡ was → BeginsRun plan cast given w at → listed ≡ kept_steps keep given → done ≡ length given
       → GoesSoFar plan cast given was now keep listed done 0 w at
-  so_far_start now listed done w at e b all count = record {
+  so_far_start now listed done w at e b kept count = record {
     steps = given;
     goes = subst (λ (g : Option Generator). GoesInOrder plan cast given given was g w at) (sym e) (in_order_start plan cast given was w at b);
-    all = all;
+    kept = kept;
     count = count;
     many = omega arith;
   }
@@ -101,15 +107,15 @@ module _ (laws : RunLaws) (plan : Planned) (cast : List (List Content)) (given :
   pub so_far_more : (now next : Option Generator) (listed longer : List Step) (done later more : ℕ) (x : Step) (old new : World) (before after : ToldAndHeld) → old.agenda.plan ≡ plan
       → (h : GoesSoFar plan cast given was now keep listed done more old before) → StepsTo old before x new after
       → Some x ≡ step_in_order old.agenda.plan h.goes.run.now now → next ≡ generator_next old.agenda.plan h.goes.run.now now
-      → AreListed keep longer (listed ++ x ∷ []) → later ≡ done + 1 → GoesSoFar plan cast given was next keep longer later (more + 1) new after
-  so_far_more now next listed longer done later more x old new before after e h s comes turn all count =
+      → longer ≡ listed ++ kept_steps keep (x ∷ []) → later ≡ done + 1 → GoesSoFar plan cast given was next keep longer later (more + 1) new after
+  so_far_more now next listed longer done later more x old new before after e h s comes turn kept count =
       let push = length_push h.steps x in
       let was_count = h.count in
       let many = h.many in
       record {
         steps = h.steps ++ x ∷ [];
         goes = in_order_more laws plan cast given h.steps was now next x old new before after e h.goes s comes turn;
-        all = λ k. all k ∙ ap (λ (l : List Step). l ++ x ∷ []) (h.all k);
+        kept = kept ∙ (ap (λ (l : List Step). l ++ kept_steps keep (x ∷ [])) h.kept ∙ kept_more keep h.steps (x ∷ []));
         count = omega (arith, push, count, was_count);
         many = omega (arith, push, many);
       }
@@ -142,7 +148,7 @@ module _ (laws : RunLaws) (plan : Planned) (cast : List (List Content)) (given :
       let run = h.goes.run in
       record {
         steps = h.steps;
-        all = h.all;
+        kept = h.kept;
         now = now;
         goes = h.goes;
         rest = laws.at_rest plan 0 run.now (subst (λ (z : Planned). IsPlan z) e run.shown.limits) (record { moves = run.moves; leads = run.leads })

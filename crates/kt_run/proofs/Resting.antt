@@ -14,8 +14,7 @@ use Rattle.kt_run.specs.RunLaws.{RunLaws}
 use Rattle.kt_run.specs.declared.orders.Order.{Order}
 use Rattle.kt_run.specs.declared.orders.Order.TheVariants.{Default}
 use Rattle.kt_run.specs.declared.recorded.Keep.{Keep}
-use Rattle.kt_run.specs.declared.recorded.Keep.TheVariants.{Steps}
-use Rattle.kt_run.specs.Orders.{generator_of, RestsInOrder, IsOrderedRun}
+use Rattle.kt_run.specs.Orders.{generator_of, RestsInOrder, IsOneOrderedRun}
 use Rattle.kt_run.specs.Runs.{ToldAndHeld, IsRun, IsPlayed, IsToldPlay}
 use Rattle.kt_run.specs.Telling.{AreToldInRun, AreToldTheirRows}
 use Rattle.kt_run.proofs.Ordering.{default_goes}
@@ -37,17 +36,21 @@ module _ (laws : RunLaws) (plan : Planned) (cast : List (List Content)) (given :
         (laws.offers (rules_by cast) plan 0 r.goes.run.moves r.goes.run.now limits r.goes.run.leads r.goes.run.offers);
   }
 
-  pub run_of : keep ≡ Steps → IsOrderedRun plan cast given order listed rows
-  run_of kept = subst (λ (l : List Step). IsOrderedRun plan cast given order l rows) (sym (r.all kept)) (record {
-    by = record { moves = r.goes.run.moves; made = r.goes.run.made; run = is_run };
-    first = r.goes.first;
-    more = r.goes.more;
-    are = r.goes.are;
-    begins = r.goes.begins;
-    begun = r.goes.begun;
-    leads = r.goes.starts;
-    ordered = r.goes.ordered;
-  })
+  pub run_of : IsOneOrderedRun plan cast given order keep listed rows
+  run_of = record {
+    steps = r.steps;
+    kept = r.kept;
+    run = record {
+      by = record { moves = r.goes.run.moves; made = r.goes.run.made; run = is_run };
+      first = r.goes.first;
+      more = r.goes.more;
+      are = r.goes.are;
+      begins = r.goes.begins;
+      begun = r.goes.begun;
+      leads = r.goes.starts;
+      ordered = r.goes.ordered;
+    };
+  }
 
   pub follows_of : FollowsPlan plan rows
   follows_of = subst (λ (l : List Event). FollowsPlan plan l) (sym rows_are) (laws.follows plan 0 r.goes.run.now limits reached r.rest)

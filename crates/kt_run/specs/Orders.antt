@@ -16,7 +16,7 @@ use Rattle.kt_core.specs.declared.faults.StepFault.{StepFault}
 use Rattle.kt_run.specs.declared.orders.Order.{Order}
 use Rattle.kt_run.specs.declared.orders.Order.TheVariants.{Default, Drawn}
 use Rattle.kt_run.specs.declared.recorded.Keep.{Keep}
-use Rattle.kt_run.specs.declared.recorded.Keep.TheVariants.{Steps}
+use Rattle.kt_run.specs.declared.recorded.Keep.TheVariants.{Log, Steps}
 use Rattle.kt_run.specs.Refused.{IsGivenNext}
 use Rattle.kt_run.specs.Runs.{ToldAndHeld, BeginsRun, IsRun}
 
@@ -68,9 +68,10 @@ abbrev pub generator_of : Order → Option Generator
 generator_of Default = None
 generator_of (Drawn seed) = Some (seeded seed)
 
--- where steps are kept, just these are listed
-abbrev pub AreListed : Keep → List Step → List Step → Type 0
-AreListed keep listed steps = keep ≡ Steps → listed ≡ steps
+-- which steps are listed of those that were made: all, or none where they are not to be kept
+abbrev pub kept_steps : Keep → List Step → List Step
+kept_steps Log steps = []
+kept_steps Steps steps = steps
 
 -- a run by just these steps leads to a world; they are those given and then those that come next, by a generator that was
 -- one and now is the other
@@ -86,10 +87,10 @@ pub record GoesInOrder (plan : Planned) (cast : List (List Content)) (given step
   pub ordered : AreInOrder plan begun was more
   pub generator : now ≡ generator_after plan begun was more
 
--- and has come to rest there; where steps are kept, all are listed
+-- and has come to rest there; these are listed of its steps
 pub record RestsInOrder (plan : Planned) (cast : List (List Content)) (given : List Step) (was : Option Generator) (keep : Keep) (listed : List Step) (world : World) (at : ToldAndHeld) : Type 0 where
   pub steps : List Step
-  pub all : AreListed keep listed steps
+  pub kept : listed ≡ kept_steps keep steps
   pub now : Option Generator
   pub goes : GoesInOrder plan cast given steps was now world at
   pub rest : is_at_rest plan goes.run.now ≡ true
@@ -140,6 +141,12 @@ pub record IsOrderedRun (plan : Planned) (cast : List (List Content)) (given : L
   pub begun : Progress
   pub leads : after_moves plan (progress_at_start plan 0) first ≡ Some begun
   pub ordered : AreInOrder plan begun (generator_of order) more
+
+-- these are the rows of one such run, and these are listed of its steps
+pub record IsOneOrderedRun (plan : Planned) (cast : List (List Content)) (given : List Step) (order : Order) (keep : Keep) (listed : List Step) (rows : List Event) : Type 0 where
+  pub steps : List Step
+  pub kept : listed ≡ kept_steps keep steps
+  pub run : IsOrderedRun plan cast given order steps rows
 
 -- a run by some steps, as many as are done, leads to a world that refuses a next one
 pub record IsOneRefused (plan : Planned) (cast : List (List Content)) (done : ℕ) (fault : StepFault) : Type 0 where

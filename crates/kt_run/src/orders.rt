@@ -37,6 +37,7 @@ impl Order {
 }
 
 /// The step that comes next in a world, if one is enabled.
+#[inline(always)]
 pub(crate) fn step_in_order(
     world: &World,
     generator: &mut Option<Xoshiro256PlusPlus>,
@@ -55,6 +56,7 @@ pub(crate) fn step_in_order(
 }
 
 // A step that is drawn from all that are enabled, if any are: they are counted, and the one at the place drawn is found.
+#[inline(never)]
 fn drawn_step(world: &World, generator: &mut Xoshiro256PlusPlus) -> Option<Step>
     ensures enabled { IfSome result (λ step. can_make world.now step ≡ true) }
     ensures none { IfNone result ((step : Step) → can_make world.now step ≡ false) }

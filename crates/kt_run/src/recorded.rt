@@ -8,7 +8,7 @@ ghost use Rattle.kt_plans.specs.Follows.{FollowsPlan};
 ghost use Rattle.kt_plans.specs.Headline.{IsCertified, IsPromised};
 ghost use Rattle.kt_run.specs.Faults.{IsCast, Answers};
 ghost use Rattle.kt_run.specs.Hindered.{TellsHindrance, TellsNoOther};
-ghost use Rattle.kt_run.specs.Orders.{IsOrderedRun, IsOneRefused, IsOneStopped};
+ghost use Rattle.kt_run.specs.Orders.{kept_steps, IsOneOrderedRun, IsOneRefused, IsOneStopped};
 ghost use Rattle.kt_run.specs.Refused.{IsStepRefused, IsStopped};
 ghost use Rattle.kt_run.specs.Rejections.{MayReject};
 ghost use Rattle.kt_run.specs.Runs.{IsPlayed};
@@ -17,6 +17,7 @@ use crate::faults::RunFault;
 use crate::laws::laws_of_runs;
 use crate::orders::Order;
 use crate::run_state::RunState;
+use kt_base::Memory;
 use kt_held::Cast;
 use kt_object::Recoverable;
 use kt_plan::{Plan, Step};
@@ -36,7 +37,7 @@ pub enum Keep {
 impl Keep {
     /// The list of the steps given, if steps are to be kept.
     pub(crate) fn list_of(self, alloc: Global, steps: &[Step]) -> Result<Vec<Step>, RunFault>
-        ensures ok { IfOk result (λ made. self ≡ Keep.Steps → made.items ≡ steps.now) }
+        ensures ok { IfOk result (λ made. made.items ≡ kept_steps self steps.now) }
         ensures fault { IfErr result (λ fault. fault ≡ RunFault.Memory) }
     {
         let mut made = Vec::new(alloc);
@@ -50,18 +51,25 @@ impl Keep {
     }
 
     /// Adds a step at the end of those that were made, if steps are to be kept.
+    #[inline(always)]
     pub(crate) fn note(self, made: &mut Vec<Step>, step: &Step) -> Result<(), RunFault>
-        ensures ok { OnOk result (self ≡ Keep.Steps → made.new.items ≡ made.old.items ++ step.now ∷ []) }
+        ensures ok { OnOk result (made.new.items ≡ made.old.items ++ kept_steps self (step.now ∷ [])) }
         ensures fault { IfErr result (λ fault. fault ≡ RunFault.Memory) }
     {
         match self {
             Keep::Log => Ok(()),
-            Keep::Steps => match made.extend_from_slice(&[*step]) {
-                Ok(()) => Ok(()),
-                Err(_) => Err(RunFault::Memory),
-            },
+            Keep::Steps => Ok(add(made, step)?),
         }
     }
+}
+
+// Adds a step at the end of a list.
+#[inline(never)]
+fn add(steps: &mut Vec<Step>, step: &Step) -> Result<(), Memory>
+    ensures { OnOk result (steps.new.items ≡ steps.old.items ++ step.now ∷ []) }
+{
+    steps.extend_from_slice(&[*step])?;
+    Ok(())
 }
 
 /// What is kept of a run: its log, and the steps that were made, all of them, in order; none where
@@ -134,15 +142,14 @@ pub fn kept_run_of(
         × MayReject (λ b saved. may_reject b saved) (slice_index plan.now.kinds p)
         (slice_index_or (map (λ row. row.items) cast.items) p []))) }
 
-    // Where steps are kept, the log is that of a run of the plan by just those that are listed, which
-    // has come to rest; they begin with the steps given and go on by those that come next in the
-    // order. What is sent for an object is what it offers.
-    ensures run { IfOk result (λ kept. keep ≡ Keep.Steps → IsOrderedRun plan.now
+    // The log is that of a run of the plan, which has come to rest; its steps begin with those given
+    // and go on by those that come next in the order, and all are listed, if they are to be kept.
+    // What is sent for an object is what it offers.
+    ensures run { IfOk result (λ kept. IsOneOrderedRun plan.now
         (map (λ row. map (λ b. content (kind_of b) (value_of b)) row.items) cast.items)
-        steps.now order kept.steps.items kept.log.rows) }
+        steps.now order keep kept.steps.items kept.log.rows) }
 
-    // By default, whatever is kept, it is that of a run which begins with the steps given and goes on
-    // by default steps.
+    // By default it is that of a run which begins with the steps given and goes on by default steps.
     ensures played { order ≡ Order.Default → IfOk result (λ kept. IsPlayed plan.now
         (map (λ row. map (λ b. content (kind_of b) (value_of b)) row.items) cast.items)
         steps.now kept.log.rows) }
