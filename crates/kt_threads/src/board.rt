@@ -6,7 +6,7 @@ ghost use Rattle.kt_threads.specs.Turns.{HasStep, IsOver};
 
 use crate::errands::errand_for;
 use crate::faults::LiveFault;
-use crate::minutes::{Keep, MOST_IN_ONE_HOLD, Minutes, Notes};
+use crate::minutes::{MOST_IN_ONE_HOLD, Minutes, Notes, Noting};
 use crate::state::{Acted, State};
 use kt_base::{Memory, ProcNo};
 use kt_core::Ready;
@@ -44,9 +44,9 @@ pub(crate) struct Board {
 }
 
 impl Board {
-    /// A board of a plan, of which nothing is done, with what is to be kept of its steps.
-    pub(crate) fn new(alloc: Global, plan: &Plan, keep: Keep) -> Result<Board, Memory> {
-        let notes = Notes::of(alloc, plan.size(), keep)?;
+    /// A board of a plan, of which nothing is done, with what is noted of its steps.
+    pub(crate) fn new(alloc: Global, plan: &Plan, noting: Noting) -> Result<Board, Memory> {
+        let notes = Notes::of(alloc, plan.size(), noting)?;
         let news = news_of(alloc, plan.size())?;
         let state = State::new(alloc, plan.copy(alloc)?)?;
         Ok(Board {

@@ -14,21 +14,20 @@ use crate::state::{Acted, State};
 use kt_base::{Memory, ProcNo, ProcSet};
 use kt_core::{Priority, Ready};
 use kt_plan::{Give, Step, Told};
+use kt_run::Keep;
 use std::alloc::Global;
 use std::marker::Model;
 
 /// How many steps of one process are made while the others wait for the lock.
 pub(crate) const MOST_IN_ONE_HOLD: usize = 1024;
 
-/// What is kept of the steps of a run, beside its log.
+/// What is noted of the steps of a run, beside what they ask of objects.
 #[derive(Clone, Copy, PartialEq, Eq)]
-pub(crate) enum Keep {
-    /// Nothing.
-    Nothing,
-    /// What each process was told.
+pub(crate) enum Noting {
+    /// What each process is told.
     Told,
-    /// The steps themselves.
-    Steps,
+    /// What is kept of the run, beside its log.
+    Kept(Keep),
 }
 
 /// Lists for what is noted of steps.
@@ -40,17 +39,17 @@ pub(crate) struct Notes {
 }
 
 impl Notes {
-    /// For so many processes, with what is to be kept of their steps, of which there was none.
+    /// For so many processes, of whose steps there was none.
     #[tactic(auto, using(crate::proofs::Noting::listed_first))]
-    pub(crate) fn of(alloc: Global, processes: usize, keep: Keep) -> Result<Notes, Memory>
+    pub(crate) fn of(alloc: Global, processes: usize, noting: Noting) -> Result<Notes, Memory>
         ensures { IfOk result (λ notes. AreNoted [] notes.errands notes.told notes.steps) }
     {
         let errands = ErrandLists::of(alloc, processes)?;
-        let told = ToldLists::of(alloc, if keep == Keep::Told { processes } else { 0 })?;
+        let told = ToldLists::of(alloc, if noting == Noting::Told { processes } else { 0 })?;
         Ok(Notes {
             errands,
             told,
-            steps: StepList::of(alloc, keep == Keep::Steps),
+            steps: StepList::of(alloc, noting == Noting::Kept(Keep::Steps)),
         })
     }
 }

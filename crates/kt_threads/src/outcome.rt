@@ -1,4 +1,4 @@
-//! All processes, each in a thread of its own.
+//! All processes, each in a thread of its own: what all runs in threads stand on, and those whose processes are told.
 
 ghost use Rattle.std.specs.List.{AllZip};
 ghost use Rattle.std.specs.Prelude.{◌≡◌, ◌≢◌, ◌⊎◌, [], ℕ, List, length, true, false, None, Some, All, map, option_map, slice_index, slice_index_or, OnOk, IfOk, IfErr, IsTrue, ◌↔◌};
@@ -10,10 +10,11 @@ ghost use Rattle.kt_plans.specs.Headline.{IsCertified, IsPromised};
 ghost use Rattle.kt_run.specs.Faults.{IsCast};
 ghost use Rattle.kt_run.specs.Objects.{first_of, has_of, HoldDue, AreLeft};
 ghost use Rattle.kt_run.specs.Rejections.{MayReject, objects_held};
-ghost use Rattle.kt_run.specs.Runs.{IsLogOfRun};
+ghost use Rattle.kt_run.specs.Runs.{IsRun};
 ghost use Rattle.kt_run.specs.Telling.{AreToldTheirRows};
 ghost use Rattle.kt_threads.specs.Faults.{AnswersFirst, AnswersLive, is_live_of_cast, live_stopped_at};
 ghost use Rattle.kt_threads.specs.Histories.{AreTheirs, IsWholeHistory, IsLived};
+ghost use Rattle.kt_threads.specs.Moves.{move_of};
 ghost use Rattle.kt_threads.specs.Noted.{AreListed, AreNoted, AreToldBy};
 ghost use Rattle.kt_threads.specs.Workers.{AllServed, KeepsServing};
 
@@ -21,7 +22,7 @@ use crate::board::Board;
 use crate::errands::{Errand, are_all_same};
 use crate::faults::LiveFault;
 use crate::laws::laws_of_worlds;
-use crate::minutes::{Keep, Minutes};
+use crate::minutes::{Minutes, Noting};
 use crate::spawning::{SpawnFault, run_all};
 use crate::state::{Acted, State};
 use crate::worker::{Worker, work};
@@ -36,8 +37,19 @@ use std::snapshot::Snapshot;
 use std::sync::Wait;
 use std::thread::Threads;
 
+/// A run that ended at rest: its log, its steps, and what those of each process asked of its object; and what they told it,
+/// and a list of them all, where that is noted.
+#[derive(Drop)]
+pub(crate) struct Lived {
+    pub(crate) log: SpaceTime,
+    steps: Vec<Snapshot<Acted>>,
+    asked: Vec<Vec<Errand>>,
+    told: Vec<Vec<Told>>,
+    pub(crate) listed: Option<Vec<Step>>,
+}
+
 /// What the processes of a plan hold at first.
-pub(crate) fn first_objects(alloc: Global, plan: &Plan, cast: Cast) -> Result<Vec<Held>, LiveFault>
+fn first_objects(alloc: Global, plan: &Plan, cast: Cast) -> Result<Vec<Held>, LiveFault>
     ensures cast { OnOk result (IsCast plan.now (map (λ row. map (λ b. kind_of b) row.items) cast.items)) }
     ensures fault { IfErr result (AnswersLive plan.now (map (λ row. map (λ b. kind_of b) row.items) cast.items)) }
     ensures object { IfErr result (λ fault. (p : ℕ) → fault ≡ LiveFault.Object p →
@@ -105,60 +117,46 @@ fn work_all<R: Threads + Wait + Sync>(
     )
 }
 
-/// The log of a run of the plan that ended at rest, its steps, and what was noted of them; or the fault that ended it.
-fn finish(
-    minutes: Minutes,
-    plan: &Plan,
-    workers: &[Worker],
-) -> Result<
-    (
-        SpaceTime,
-        Vec<Snapshot<Acted>>,
-        Vec<Vec<Errand>>,
-        Vec<Vec<Told>>,
-        Option<Vec<Step>>,
-    ),
-    LiveFault,
->
-    ensures run { IfOk result (λ parts.
-        IsWholeHistory plan.entry.now (map (λ step. step.value) parts.1.items) parts.0.rows) }
-    ensures noted { IfOk result (λ parts. AreNoted (map (λ step. step.value) parts.1.items)
-        (map (λ list. list.items) parts.2.items) (map (λ list. list.items) parts.3.items)
-        (option_map (λ list. list.items) parts.4)) }
-    ensures promised { IfOk result (λ parts. IsPromised parts.0.rows) }
-    ensures follows { IfOk result (λ parts. FollowsPlan plan.entry.now parts.0.rows) }
+/// The run of the plan that ended at rest, or the fault that ended it.
+fn finish(minutes: Minutes, plan: &Plan, workers: &[Worker]) -> Result<Lived, LiveFault>
+    ensures run { IfOk result (λ lived.
+        IsWholeHistory plan.entry.now (map (λ step. step.value) lived.steps.items) lived.log.rows) }
+    ensures noted { IfOk result (λ lived. AreNoted (map (λ step. step.value) lived.steps.items)
+        (map (λ list. list.items) lived.asked.items) (map (λ list. list.items) lived.told.items)
+        (option_map (λ list. list.items) lived.listed)) }
+    ensures promised { IfOk result (λ lived. IsPromised lived.log.rows) }
+    ensures follows { IfOk result (λ lived. FollowsPlan plan.entry.now lived.log.rows) }
     ensures fault { IfErr result (λ fault. is_live_of_cast fault ≡ false) }
     ensures named { IfErr result (λ fault. (p : ℕ) → live_stopped_at fault ≡ Some p →
         slice_index_or (map (λ worker. worker.fault) workers.entry.now) p None ≡ Some fault) }
 {
     match ended(minutes.state(), plan, workers) {
-        Ok(()) => Ok(parts_of(minutes)),
+        Ok(()) => Ok(run_of(minutes)),
         Err(fault) => Err(fault),
     }
 }
 
-/// The log of a run that ended at rest, its steps, and what was noted of them.
-fn parts_of(
-    minutes: Minutes,
-) -> (
-    SpaceTime,
-    Vec<Snapshot<Acted>>,
-    Vec<Vec<Errand>>,
-    Vec<Vec<Told>>,
-    Option<Vec<Step>>,
-)
+/// A run that ended at rest.
+fn run_of(minutes: Minutes) -> Lived
     requires going { minutes.fault ≡ None }
     requires rest { IsWorldAtRest minutes.world }
-    ensures log { result.0 ≡ minutes.world.system.rows }
-    ensures run { IsWholeHistory minutes.world.agenda.plan (map (λ step. step.value) result.1.items) result.0.rows }
-    ensures noted { AreNoted (map (λ step. step.value) result.1.items)
-        (map (λ list. list.items) result.2.items) (map (λ list. list.items) result.3.items)
-        (option_map (λ list. list.items) result.4) }
-    ensures promised { IsPromised result.0.rows }
+    ensures log { result.log ≡ minutes.world.system.rows }
+    ensures run { IsWholeHistory minutes.world.agenda.plan
+        (map (λ step. step.value) result.steps.items) result.log.rows }
+    ensures noted { AreNoted (map (λ step. step.value) result.steps.items)
+        (map (λ list. list.items) result.asked.items) (map (λ list. list.items) result.told.items)
+        (option_map (λ list. list.items) result.listed) }
+    ensures promised { IsPromised result.log.rows }
 {
     let (state, asked, told, listed) = minutes.into_parts();
     let (log, steps) = state.into_parts();
-    (log, steps, asked, told, listed)
+    Lived {
+        log,
+        steps,
+        asked,
+        told,
+        listed,
+    }
 }
 
 /// The fault that is answered where this one was the first. Of the faults that name a process only one by which its thread
@@ -233,41 +231,30 @@ fn leave(alloc: Global, workers: Vec<Worker>) -> Result<(Vec<Vec<Errand>>, Vec<H
     Ok((lists, objects))
 }
 
-/// Runs a plan over what its processes hold at first, each in a thread of its own: the log, the steps, what those of each
-/// process asked of its object, what they told it, where that is to be kept, what it holds, and a list of the steps, where
-/// that is to be kept.
-pub(crate) fn work_out<R: Threads + Wait + Sync>(
+/// Runs a plan over what its processes hold at first, each in a thread of its own: the run, and what each process holds.
+fn work_out<R: Threads + Wait + Sync>(
     rt: &R,
     alloc: Global,
     plan: &Plan,
     objects: Vec<Held>,
-    keep: Keep,
-) -> Result<
-    (
-        SpaceTime,
-        Vec<Snapshot<Acted>>,
-        Vec<Vec<Errand>>,
-        Vec<Vec<Told>>,
-        Vec<Held>,
-        Option<Vec<Step>>,
-    ),
-    LiveFault,
->
-    ensures history { IfOk result (λ r. IsWholeHistory plan.now (map (λ step. step.value) r.1.items) r.0.rows) }
+    noting: Noting,
+) -> Result<(Lived, Vec<Held>), LiveFault>
+    ensures history { IfOk result (λ r.
+        IsWholeHistory plan.now (map (λ step. step.value) r.0.steps.items) r.0.log.rows) }
     ensures theirs { IfOk result (λ r. AreTheirs (length plan.now.names)
-        (map (λ step. step.value) r.1.items) (map (λ list. list.items) r.2.items)) }
+        (map (λ step. step.value) r.0.steps.items) (map (λ list. list.items) r.0.asked.items)) }
     ensures told { IfOk result (λ r. AreToldBy
-        (map (λ step. step.value) r.1.items) (map (λ list. list.items) r.3.items)) }
+        (map (λ step. step.value) r.0.steps.items) (map (λ list. list.items) r.0.told.items)) }
     ensures listed { IfOk result (λ r. AreListed
-        (map (λ step. step.value) r.1.items) (option_map (λ list. list.items) r.5)) }
+        (map (λ step. step.value) r.0.steps.items) (option_map (λ list. list.items) r.0.listed)) }
     ensures served { IfOk result (λ r. AllServed
         (has_of objects.items (λ b. content (kind_of (b.vtable, b.value)) (value_of (b.vtable, b.value))))
-        (map (λ list. list.items) r.2.items)
-        (has_of r.4.items (λ b. content (kind_of (b.vtable, b.value)) (value_of (b.vtable, b.value))))) }
+        (map (λ list. list.items) r.0.asked.items)
+        (has_of r.1.items (λ b. content (kind_of (b.vtable, b.value)) (value_of (b.vtable, b.value))))) }
     ensures spares { IfOk result (λ r.
-        AllZip (λ g h. AreLeft g.spares.items h.spares.items) objects.items r.4.items) }
-    ensures promised { IfOk result (λ r. IsPromised r.0.rows) }
-    ensures follows { IfOk result (λ r. FollowsPlan plan.now r.0.rows) }
+        AllZip (λ g h. AreLeft g.spares.items h.spares.items) objects.items r.1.items) }
+    ensures promised { IfOk result (λ r. IsPromised r.0.log.rows) }
+    ensures follows { IfOk result (λ r. FollowsPlan plan.now r.0.log.rows) }
     ensures fault { IfErr result (λ fault. is_live_of_cast fault ≡ false) }
     ensures object { (cast : List (List Content)) → HoldDue cast [] (has_of objects.items
         (λ b. content (kind_of (b.vtable, b.value)) (value_of (b.vtable, b.value)))) →
@@ -276,57 +263,57 @@ pub(crate) fn work_out<R: Threads + Wait + Sync>(
         (slice_index_or (objects_held objects.items) p [])) }
 {
     let workers = workers_of(alloc, objects)?;
-    let board = Board::new(alloc, plan, keep)?;
+    let board = Board::new(alloc, plan, noting)?;
     let workers = work_all(rt, alloc, &board, workers)?;
-    let (log, steps, asked, told, listed) = finish(board.into_minutes(), plan, &workers)?;
+    let lived = finish(board.into_minutes(), plan, &workers)?;
     let (lists, objects) = leave(alloc, workers)?;
-    if !are_all_same(plan.size(), &asked, &lists) {
+    if !are_all_same(plan.size(), &lived.asked, &lists) {
         return Err(LiveFault::Differ);
     }
-    Ok((log, steps, lists, told, objects, listed))
+    Ok((lived, objects))
 }
 
-/// Runs a plan over what its processes hold at first, each in a thread of its own, and keeps what each was told.
-fn live_with<R: Threads + Wait + Sync>(
+/// Runs a plan over these objects, each process in a thread of its own, until all is at rest: the run, and what each process
+/// holds.
+pub(crate) fn run_cast<R: Threads + Wait + Sync>(
     rt: &R,
     alloc: Global,
     plan: &Plan,
-    objects: Vec<Held>,
-) -> Result<Outcome, LiveFault>
-    ensures lived { (cast : List (List Content)) → HoldDue cast [] (has_of objects.items
-        (λ b. content (kind_of (b.vtable, b.value)) (value_of (b.vtable, b.value)))) →
-        IfOk result (λ o. IsLived plan.now cast o.log.rows (map (λ list. list.items) o.told.items)) }
-    ensures due { (cast : List (List Content)) → HoldDue cast [] (has_of objects.items
-        (λ b. content (kind_of (b.vtable, b.value)) (value_of (b.vtable, b.value)))) →
-        IfOk result (λ o. HoldDue cast o.log.rows (has_of o.objects.items
-        (λ b. content (kind_of (b.vtable, b.value)) (value_of (b.vtable, b.value))))) }
-    ensures settled { (cast : List (List Content)) → HoldDue cast [] (has_of objects.items
-        (λ b. content (kind_of (b.vtable, b.value)) (value_of (b.vtable, b.value)))) →
-        IfOk result (λ o. All (λ h. h.depot.tentative ≡ None) o.objects.items) }
-    ensures spares { IfOk result (λ o.
-        AllZip (λ g h. AreLeft g.spares.items h.spares.items) objects.items o.objects.items) }
-    ensures told { IfOk result (λ o. AreToldTheirRows o.log.rows (map (λ list. list.items) o.told.items)) }
-    ensures promised { IfOk result (λ o. IsPromised o.log.rows) }
-    ensures follows { IfOk result (λ o. FollowsPlan plan.now o.log.rows) }
-    ensures fault { IfErr result (λ fault. is_live_of_cast fault ≡ false) }
-    ensures object { (cast : List (List Content)) → HoldDue cast [] (has_of objects.items
-        (λ b. content (kind_of (b.vtable, b.value)) (value_of (b.vtable, b.value)))) →
-        IfErr result (λ fault. (p : ℕ) → fault ≡ LiveFault.Object p →
-        MayReject (λ b saved. may_reject (b.vtable, b.value) saved) (first_of (slice_index_or cast p [])).kind
-        (slice_index_or (objects_held objects.items) p [])) }
+    noting: Noting,
+    cast: Cast,
+) -> Result<(Lived, Vec<Held>), LiveFault>
+    ensures history { IfOk result (λ r.
+        IsWholeHistory plan.now (map (λ step. step.value) r.0.steps.items) r.0.log.rows) }
+    ensures run { IfOk result (λ r. IsRun plan.now
+        (map (λ row. map (λ b. content (kind_of b) (value_of b)) row.items) cast.items)
+        (map move_of (map (λ step. step.value) r.0.steps.items)) r.0.log.rows) }
+    ensures told { IfOk result (λ r. AreToldBy
+        (map (λ step. step.value) r.0.steps.items) (map (λ list. list.items) r.0.told.items)) }
+    ensures listed { IfOk result (λ r. AreListed
+        (map (λ step. step.value) r.0.steps.items) (option_map (λ list. list.items) r.0.listed)) }
+    ensures due { IfOk result (λ r. HoldDue
+        (map (λ row. map (λ b. content (kind_of b) (value_of b)) row.items) cast.items) r.0.log.rows
+        (has_of r.1.items (λ b. content (kind_of b) (value_of b)))) }
+    ensures settled { IfOk result (λ r. All (λ h. h.depot.tentative ≡ None) r.1.items) }
+    ensures spares { IfOk result (λ r.
+        AllZip (λ row h. AreLeft row.items h.spares.items) cast.items r.1.items) }
+    ensures promised { IfOk result (λ r. IsPromised r.0.log.rows) }
+    ensures certified { IfOk result (λ r. IsCertified r.0.log.rows) }
+    ensures follows { IfOk result (λ r. FollowsPlan plan.now r.0.log.rows) }
+    ensures cast { OnOk result
+        (IsCast plan.now (map (λ row. map (λ b. kind_of b) row.items) cast.items)) }
+    ensures fault { IfErr result
+        (AnswersLive plan.now (map (λ row. map (λ b. kind_of b) row.items) cast.items)) }
+    ensures object { IfErr result (λ fault. (p : ℕ) → fault ≡ LiveFault.Object p →
+        IsLeastRefused (λ b. may_save b) (λ b. may_refuse b) (map (λ row. row.items) cast.items) p
+        ⊎ MayReject (λ b saved. may_reject b saved) (slice_index plan.now.kinds p)
+        (slice_index_or (map (λ row. row.items) cast.items) p [])) }
 {
+    kt_plans::certificates_of_promised_logs();
     laws_of_worlds();
-    let (log, _steps, _lists, told, objects, _listed) = work_out(
-        rt,
-        alloc,
-        plan,
-        objects,
-        Keep::Told,
-    )?;
-    if told.len() != plan.size() {
-        return Err(LiveFault::Differ);
-    }
-    Ok(Outcome { log, told, objects })
+    let objects = first_objects(alloc, plan, cast)?;
+    let run = work_out(rt, alloc, plan, objects, noting)?;
+    Ok(run)
 }
 
 /// Runs a plan over these objects, each process in a thread of its own, until all is at rest.
@@ -376,50 +363,14 @@ pub fn live<R: Threads + Wait + Sync>(
         ⊎ MayReject (λ b saved. may_reject b saved) (slice_index plan.now.kinds p)
         (slice_index_or (map (λ row. row.items) cast.items) p [])) }
 {
-    kt_plans::certificates_of_promised_logs();
-    let objects = first_objects(alloc, plan, cast)?;
-    let outcome = live_with(rt, alloc, plan, objects)?;
-    Ok(outcome)
-}
-
-/// The log of a run as `live` makes it, with no list of what the processes were told.
-pub fn live_log_of<R: Threads + Wait + Sync>(
-    rt: &R,
-    alloc: Global,
-    plan: &Plan,
-    cast: Cast,
-) -> Result<SpaceTime, LiveFault>
-    // It is that of a run of the plan that ends at rest. What is sent for an object is what it offers.
-    ensures lived { IfOk result (λ log. IsLogOfRun plan.now
-        (map (λ row. map (λ b. content (kind_of b) (value_of b)) row.items) cast.items) log.rows) }
-
-    // Of it all is so that is promised of every run's.
-    ensures promised { IfOk result (λ log. IsPromised log.rows) }
-    ensures certified { IfOk result (λ log. IsCertified log.rows) }
-
-    // It follows the plan, told by its rows alone.
-    ensures follows { IfOk result (λ log. FollowsPlan plan.now log.rows) }
-
-    // The objects are those that the plan asks for; else a fault says what is wrong with them.
-    ensures cast { OnOk result (IsCast plan.now (map (λ row. map (λ b. kind_of b) row.items) cast.items)) }
-    ensures fault { IfErr result (AnswersLive plan.now (map (λ row. map (λ b. kind_of b) row.items) cast.items)) }
-
-    // Where an object fails, it is either at first, that of the least process whose save may be refused; or one of the objects
-    // that the process was given may reject a saved state of their kind.
-    ensures object { IfErr result (λ fault. (p : ℕ) → fault ≡ LiveFault.Object p →
-        IsLeastRefused (λ b. may_save b) (λ b. may_refuse b) (map (λ row. row.items) cast.items) p
-        ⊎ MayReject (λ b saved. may_reject b saved) (slice_index plan.now.kinds p)
-        (slice_index_or (map (λ row. row.items) cast.items) p [])) }
-{
-    kt_plans::certificates_of_promised_logs();
     laws_of_worlds();
-    let objects = first_objects(alloc, plan, cast)?;
-    let (log, _steps, _lists, _told, _objects, _listed) = work_out(
-        rt,
-        alloc,
-        plan,
+    let (lived, objects) = run_cast(rt, alloc, plan, Noting::Told, cast)?;
+    if lived.told.len() != plan.size() {
+        return Err(LiveFault::Differ);
+    }
+    Ok(Outcome {
+        log: lived.log,
+        told: lived.told,
         objects,
-        Keep::Nothing,
-    )?;
-    Ok(log)
+    })
 }

@@ -1,29 +1,28 @@
-use Rattle.std.proofs.Common.{rules, ◌≡◌, [], inl, inr, map, subst}
-use Rattle.std.specs.Prelude.{Result, Err, IfErr, slice_index_or}
-use Rattle.kt_held.specs.Holdings.{content}
-use Rattle.kt_run.specs.Objects.{first_of}
-use Rattle.kt_run.specs.Rejections.{MayReject}
-use Rattle.kt_threads.proofs.Rejecting.{of_kind}
-use Rattle.kt_threads.proofs.Working.{left_then}
+use Rattle.std.proofs.Common.{rules, ◌∙◌, length, map}
+use Rattle.std.proofs.lemmas.List.{length-map}
+use Rattle.kt_threads.proofs.Moving.{told_as_in_run, told_their_rows}
+use Rattle.kt_threads.proofs.Noting.{tells_of}
 use Rattle.kt_threads.proofs.outcome.live.Goals as goal
 
-pub returns-clause-settled : goal.returns-clause-settled
-returns-clause-settled g c = c.in_ok-outcome.ensures.settled _ c.in_ok-objects.ensures.due
+pub returns-clause-lived : goal.returns-clause-lived
+returns-clause-lived g c =
+    let plan = c.args.plan.now in
+    let steps = map (λ step. step.value) c.in_ok-lived.lived.steps.items in
+    let ends = c.in_ok-lived.ensures in
+    let tells = tells_of (length plan.names) steps (map (λ list. list.items) c.in_ok-lived.lived.told.items) ends.told
+    (length-map c.in_ok-lived.lived.told.items (λ list. list.items) ∙ (search rules)) in
+    record {
+      steps = steps;
+      run = ends.run;
+      tells = tells;
+      as_in_run = told_as_in_run c.laws_of_worlds.ensures plan steps c.in_ok-lived.lived.log.rows ends.history (length plan.names) _ tells;
+    }
 
-pub returns-clause-spares : goal.returns-clause-spares
-returns-clause-spares g c =
-    left_then (λ h. h.spares.items) (λ row. row.items) c.args.cast.items c.in_ok-objects.objects.items c.in_ok-outcome.outcome.objects.items
-    c.in_ok-objects.ensures.spares c.in_ok-outcome.ensures.spares
-
-if_err : {T E : Type 0} (r : Result T E) (P : E → Type 0) (e : E) → r ≡ Err e → P e → IfErr r P
-if_err r P e is p = rw is p
-
-pub returns-in_err-objects-clause-object : goal.returns-in_err-objects-clause-object
-returns-in_err-objects-clause-object g c = if_err c.from_residual.result _ c.in_err-objects.field-0.0 (search rules) (λ p e. inl (c.in_err-objects.ensures.object p e))
-
-pub returns-in_err-outcome-clause-object : goal.returns-in_err-outcome-clause-object
-returns-in_err-outcome-clause-object g c = if_err c.from_residual-in_err-outcome.result _ c.in_err-outcome.field-0.0 (search rules)
-    (λ p e. inr (of_kind (λ b saved. (goal.Recoverable-dyn g (b.vtable, b.value)).may_reject b.value saved) _ _ (slice_index_or (map (λ row. row.items) c.args.cast.items) p []) (c.in_ok-objects.ensures.kinds p)
-    (subst (λ objects. MayReject (λ b saved. (goal.Recoverable-dyn g (b.vtable, b.value)).may_reject b.value saved) (first_of (slice_index_or (map (λ row. map (λ b. content ((goal.Recoverable-dyn g (b.vtable, b.value)).kind_of b.value) ((goal.Recoverable-dyn g (b.vtable, b.value)).value_of b.value)) row.items) c.args.cast.items) p [])).kind (slice_index_or objects p []))
-    c.in_ok-objects.ensures.given
-    (c.in_err-outcome.ensures.object (map (λ row. map (λ b. content ((goal.Recoverable-dyn g (b.vtable, b.value)).kind_of b.value) ((goal.Recoverable-dyn g (b.vtable, b.value)).value_of b.value)) row.items) c.args.cast.items) c.in_ok-objects.ensures.due p e))))
+pub returns-clause-told : goal.returns-clause-told
+returns-clause-told g c =
+    let plan = c.args.plan.now in
+    let steps = map (λ step. step.value) c.in_ok-lived.lived.steps.items in
+    let ends = c.in_ok-lived.ensures in
+    told_their_rows c.laws_of_worlds.ensures plan steps c.in_ok-lived.lived.log.rows ends.history (length plan.names) _
+    (tells_of (length plan.names) steps (map (λ list. list.items) c.in_ok-lived.lived.told.items) ends.told
+    (length-map c.in_ok-lived.lived.told.items (λ list. list.items) ∙ (search rules)))
