@@ -8,7 +8,7 @@ use Rattle.kt_spacetime.specs.declared.event.Event.{Event}
 use Rattle.kt_cuts.specs.Past.{past}
 use Rattle.kt_cuts.specs.Legal.{is_undelivered}
 use Rattle.kt_explain.specs.declared.waiting.Waiting.{Waiting}
-use Rattle.kt_explain.specs.Waiting.{Notes}
+use Rattle.kt_explain.specs.Breaches.{Notes}
 use Rattle.kt_explain.proofs.Receivers.{range_more}
 
 -- those of the messages of the first so many rows

@@ -18,7 +18,7 @@ use Rattle.kt_cuts.proofs.OrphanFacts.{between_of, orphan_of}
 use Rattle.kt_base.specs.declared.words.Kind.{Kind}
 use Rattle.kt_checker.specs.Passing.{decided_cut}
 use Rattle.kt_explain.specs.declared.orphans.Orphan.{Orphan}
-use Rattle.kt_explain.specs.Orphans.{HasParts, IsLeastOrphan, IsOrphanTold}
+use Rattle.kt_explain.specs.Told.{HasParts, IsLeastOrphan, IsOrphanTold}
 
 take_none : (n : ℕ) → take n (let l : List Deed = [] in l) ≡ []
 take_none zero = refl

@@ -17,7 +17,7 @@ use Rattle.kt_cuts.proofs.DeedFacts.{place_of_deed, has_at}
 use Rattle.kt_cuts.proofs.Places.{sent_places, received_places, deed_once, rowed}
 use Rattle.kt_cuts.proofs.Traced.{place_at}
 use Rattle.kt_checker.proofs.Chaining.{place_found}
-use Rattle.kt_explain.specs.Breaches.{has_sent, has_received}
+use Rattle.kt_explain.specs.Demands.{has_sent, has_received}
 
 -- what is not so, where it would be absurd
 pub is_false : (b : Bool) → (b ≡ true → ⊥) → b ≡ false

@@ -5,41 +5,28 @@ use Rattle.kt_chain.specs.Spelling.{Member}
 use Rattle.kt_chain.specs.declared.certificate.Certificate.{Certificate}
 use Rattle.kt_certify.specs.Certificates.{certificates}
 use Rattle.kt_checker.specs.declared.verdict.Why.{Why}
-use Rattle.kt_checker.specs.declared.verdict.Why.TheVariants.{BadLog, Unknown, Cause, Members, Chain, Orphan, Missing}
+use Rattle.kt_checker.specs.declared.verdict.Why.TheVariants.{BadLog, Unknown, Cause, Members, Orphan}
 use Rattle.kt_checker.specs.Judged.{IsFirstOfInstance}
 use Rattle.kt_explain.specs.declared.compared.Compared.{Compared}
 use Rattle.kt_explain.specs.declared.compared.Differs.{Differs}
-use Rattle.kt_explain.specs.declared.compared.Differs.TheVariants.{Record, Process, Second}
+use Rattle.kt_explain.specs.declared.compared.Differs.TheVariants.{Record, Second}
 
 -- a reason is about a certificate, or the want of one
 abbrev pub IsOfCertificate : Why → Type 0
-IsOfCertificate Unknown = Unit {0}
-IsOfCertificate Members = Unit {0}
-IsOfCertificate Chain = Unit {0}
-IsOfCertificate Missing = Unit {0}
 IsOfCertificate (BadLog rule) = ⊥
 IsOfCertificate Cause = ⊥
 IsOfCertificate Orphan = ⊥
+IsOfCertificate _ = Unit {0}
 
 -- whether it is about the members too
 abbrev pub asks_all : Why → Bool
 asks_all Unknown = false
-asks_all Members = true
-asks_all Chain = true
-asks_all Missing = true
-asks_all (BadLog rule) = true
-asks_all Cause = true
-asks_all Orphan = true
+asks_all _ = true
 
 -- whether it is about their chains, where it is about the members
 abbrev pub asks_chains : Why → Bool
 asks_chains Members = false
-asks_chains Unknown = true
-asks_chains Chain = true
-asks_chains Missing = true
-asks_chains (BadLog rule) = true
-asks_chains Cause = true
-asks_chains Orphan = true
+asks_chains _ = true
 
 -- the records of the instance say the same in two certificates
 abbrev pub SameHead : Certificate → Certificate → Type 0
@@ -115,8 +102,8 @@ IsAlone list k first =
 -- in what the certificates of an instance differ, of which the first ones stand at these places: in this record, the first
 -- that does, with or without the chains; or in nothing that counts, but there is a second one of the instance
 abbrev pub IsDifference : List Certificate → ℕ → Option ℕ → List Certificate → Option ℕ → Differs → Type 0
-IsDifference list k has meant means (Record place) = DifferIn true (certificate_at list has) (certificate_at meant means) place
-IsDifference list k has meant means (Process place) = DifferIn false (certificate_at list has) (certificate_at meant means) place
+IsDifference list k has meant means (Record place chains) =
+    DifferIn chains (certificate_at list has) (certificate_at meant means) place
 IsDifference list k has meant means (Second place) = IsSecondAt list k has place
 
 -- the certificate of an instance in a list, and the one that the log means

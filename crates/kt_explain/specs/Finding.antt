@@ -79,11 +79,6 @@ pub record IsLastRow (test : Event → Bool) (rows : List Event) (number : ℕ) 
   pub passes : test row ≡ true
   pub last : (n : ℕ) (other : Event) → place < n → slice_get rows n ≡ Some other → test other ≡ true → ⊥
 
--- the last row that passes a test, or that there is none
-abbrev pub IsLastFound : (Event → Bool) → List Event → Option Found → Type 0
-IsLastFound test rows None = HasNoRow test rows
-IsLastFound test rows (Some found) = IsLastRow test rows found.number found.row
-
 -- the number of the last row that passes a test, or that there is none
 abbrev pub IsLastNumber : (Event → Bool) → List Event → Option ℕ → Type 0
 IsLastNumber test rows None = HasNoRow test rows

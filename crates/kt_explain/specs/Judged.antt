@@ -56,20 +56,16 @@ is_drop _ = false
 abbrev pub is_kind : Kind → Kind → Bool
 is_kind Checkpoint Checkpoint = true
 is_kind Rollback Rollback = true
-is_kind Checkpoint Rollback = false
-is_kind Rollback Checkpoint = false
+is_kind _ _ = false
 
--- whether a certificate is of a committed instance of a kind, or of an aborted one
-abbrev pub is_committed : Kind → Certificate → Bool
-is_committed kind c = is_kind kind c.kind && c.commit
-
-abbrev pub is_aborted : Kind → Certificate → Bool
-is_aborted kind c = is_kind kind c.kind && not c.commit
+-- whether a certificate is of an instance of a kind that was decided so
+abbrev pub is_decided : Kind → Bool → Certificate → Bool
+is_decided kind commit c = is_kind kind c.kind && (if commit then c.commit else not c.commit)
 
 -- how many instances of a kind were decided, by certificates that pass: there is one of each that was decided
 pub record AreDecided (certificates : List Certificate) (kind : Kind) (d : Decided) : Type 0 where
-  pub committed : d.committed ≡ count_by (is_committed kind) certificates
-  pub aborted : d.aborted ≡ count_by (is_aborted kind) certificates
+  pub committed : d.committed ≡ count_by (is_decided kind true) certificates
+  pub aborted : d.aborted ≡ count_by (is_decided kind false) certificates
 
 -- what a log leaves open
 pub record IsLeftOpen (rows : List Event) (l : Judged) : Type 0 where

@@ -1,9 +1,6 @@
 pub mod Finding
+pub mod Demands
 pub mod Breaches
-pub mod Undoing
-pub mod Laters
-pub mod Waiting
-pub mod Orphans
 pub mod Compared
 pub mod Judged
 pub mod Told

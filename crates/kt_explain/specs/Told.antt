@@ -1,10 +1,15 @@
 -- When what is told of an answer is so.
-use Rattle.std.specs.Prelude.{◌≡◌, ◌+◌, ℕ, Bool, true, false, Option, Some, None, IfSome, List, take, slice_get, map}
+use Rattle.std.specs.Prelude.{◌≡◌, ◌≤◌, ◌↔◌, ◌+◌, ℕ, Bool, true, false, Option, Some, None, IfSome, IsTrue, List, Contains, take, slice_get}
 use Rattle.kt_spacetime.specs.declared.event.Event.{Event}
 use Rattle.kt_spacetime.specs.declared.event.Event.TheVariants as event
 use Rattle.kt_base.specs.declared.words.Cause.{Cause}
+use Rattle.kt_base.specs.declared.words.Kind.{Kind}
+use Rattle.kt_cuts.specs.Past.{Past, past}
+use Rattle.kt_cuts.specs.Cuts.{IsOrphan}
+use Rattle.kt_cuts.specs.Chains.{members}
+use Rattle.kt_checker.specs.Passing.{decided_cut}
 use Rattle.kt_cuts.specs.Legal.{is_join, keeps}
-use Rattle.kt_cuts.specs.Messages.{row_at}
+use Rattle.kt_cuts.specs.Messages.{IsMessage, row_at}
 use Rattle.kt_chain.specs.declared.certificate.Certificate.{Certificate}
 use Rattle.kt_certify.specs.Faults.{HasNoChain}
 use Rattle.kt_checker.specs.declared.verdict.Verdict.{Verdict}
@@ -14,43 +19,52 @@ use Rattle.kt_checker.specs.declared.verdict.Why.TheVariants as why
 use Rattle.kt_checker.specs.Unwilling.{is_unwilling}
 use Rattle.kt_checker.specs.Judged.{IsFirstCertificate}
 use Rattle.kt_explain.specs.declared.bad_row.BadRow.{BadRow}
+use Rattle.kt_explain.specs.declared.orphans.Orphan.{Orphan as Orphans}
 use Rattle.kt_explain.specs.declared.explanation.Explanation.{Explanation}
 use Rattle.kt_explain.specs.declared.explanation.Explanation.TheVariants.{Nothing, Judged, Objection, NoObjection, Compared, Unlinked, Orphan, BadLog}
 use Rattle.kt_explain.specs.Judged.{IsJudgedSo}
-use Rattle.kt_explain.specs.Orphans.{IsOrphanTold}
-use Rattle.kt_explain.specs.Breaches.{IsBreach}
-use Rattle.kt_explain.specs.Undoing.{IsUndoneIn}
-use Rattle.kt_explain.specs.Laters.{IsLater}
-use Rattle.kt_explain.specs.Waiting.{IsWaitingAt}
+use Rattle.kt_explain.specs.Breaches.{IsBreach, IsLater, IsUndoing, IsUndoneIn, IsWaitingAt}
 use Rattle.kt_explain.specs.Compared.{IsCompared, IsOfCertificate}
-use Rattle.kt_explain.specs.Finding.{HasNoRow, IsFirstRow, IsLastNumber}
+use Rattle.kt_explain.specs.Finding.{HasNoRow, IsFirstRow, IsLastNumber, IsLastRow, receives}
 
 -- a certificate is the first one of an instance
 abbrev pub IsItsFirst : List Certificate → ℕ → Certificate → Type 0
 IsItsFirst certificates k c = IsFirstCertificate certificates k (Some c)
 
--- the processes that a certificate lists
-abbrev pub listed_in : Certificate → List ℕ
-listed_in c = map (λ m. m.0) c.members
-
 -- a row decides an instance so
 abbrev pub HasDecided : List Event → ℕ → ℕ → Bool → Type 0
 HasDecided rows row k commit = (p : ℕ) × (row_at rows row ≡ Some (event.Decided p k commit))
 
--- an answer is a no for a certificate of an instance, or for the want of one
-pub record IsCertificateNo (verdict : Verdict) : Type 0 where
-  pub inst : ℕ
-  pub row : Option ℕ
-  pub reason : Why
-  pub verdict_is : verdict ≡ No (Some inst) row reason
-  pub of_certificate : IsOfCertificate reason
-
--- the same, of this instance
+-- an answer is a no for a certificate of this instance, or for the want of one
 pub record IsNoOf (verdict : Verdict) (k : ℕ) : Type 0 where
   pub row : Option ℕ
   pub reason : Why
   pub verdict_is : verdict ≡ No (Some k) row reason
   pub of_certificate : IsOfCertificate reason
+
+-- the same, of some instance
+abbrev pub IsCertificateNo : Verdict → Type 0
+IsCertificateNo verdict = (k : ℕ) × IsNoOf verdict k
+
+-- the least orphan of a cut
+pub record IsLeastOrphan (s : Past) (cut : ℕ → ℕ) (msg : ℕ) : Type 0 where
+  pub orphan : IsOrphan s cut msg
+  pub least : (other : ℕ) → IsOrphan s cut other → msg ≤ other
+
+-- what is told of a message, of an instance with these members: its sender and its receiver, the row in which it was received
+-- last, the one that undid its send, and which of the two is a member
+pub record HasParts (rows : List Event) (joined : List ℕ) (msg : ℕ) (o : Orphans) : Type 0 where
+  pub msg_is : o.msg ≡ msg
+  pub message : IsMessage rows o.msg o.from o.to
+  pub received : IsLastRow (receives o.to o.from o.msg) rows o.received (event.Received o.to o.from o.msg)
+  pub undone : IfSome o.undone (IsUndoing rows o.msg)
+  pub sender : IsTrue o.is_sender_member ↔ Contains joined o.from
+  pub receiver : IsTrue o.is_receiver_member ↔ Contains joined o.to
+
+-- what is told of the least orphan of the cut that the decision of an instance makes
+pub record IsOrphanTold (rows : List Event) (k : ℕ) (kind : Kind) (o : Orphans) : Type 0 where
+  pub least : IsLeastOrphan (past rows) (decided_cut (past rows) k kind) o.msg
+  pub parts : HasParts rows (members rows k) o.msg o
 
 -- a row of a log, and what breaks the rule
 pub record IsBadRow (rows : List Event) (b : BadRow) (place : ℕ) (row : Event) : Type 0 where

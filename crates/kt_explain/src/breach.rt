@@ -2,73 +2,32 @@
 
 pub(crate) mod before;
 mod deliveries;
-mod rules;
+mod demands;
 
 use kt_base::{InstNo, Kind, MsgNo, ProcNo, RowNo};
 use std::fmt;
 
-/// What is so before a row, and is against the rule that the row breaks.
+/// What is so before a row, and is against what a rule demands of it.
 #[derive(Clone, Copy, Debug)]
 pub enum Breach {
-    Message(MessageBreach),
-    Process(ProcessBreach),
-    Instance(InstanceBreach),
-    /// No such command is refused for such a cause.
-    NoCause,
-}
-
-/// What is so of a message that is received or dropped.
-#[derive(Clone, Copy, Debug)]
-pub enum MessageBreach {
-    /// No row sends it.
+    /// No row sends this message.
     NotSent(MsgNo),
-    /// It was sent by one process to another.
-    SentBetween {
-        msg: MsgNo,
-        from: ProcNo,
-        to: ProcNo,
-    },
-    /// Its send was undone.
-    Undone {
-        msg: MsgNo,
-        from: ProcNo,
-        to: ProcNo,
-    },
-    /// The process received it from its sender, in this row.
-    Received {
-        p: ProcNo,
-        from: ProcNo,
-        msg: MsgNo,
-        row: RowNo,
-    },
+    /// It was sent by this process to that one.
+    SentBetween(MsgNo, ProcNo, ProcNo),
+    /// Its send by this process to that one was undone.
+    Undone(MsgNo, ProcNo, ProcNo),
+    /// This process received from that one this message, in this row.
+    Received(ProcNo, ProcNo, MsgNo, RowNo),
     /// It was dropped in this row.
-    Dropped {
-        msg: MsgNo,
-        row: RowNo,
-    },
-    /// This is the latest message of the sender that the process received, in this row.
-    ReceivedLater {
-        p: ProcNo,
-        from: ProcNo,
-        msg: MsgNo,
-        row: RowNo,
-    },
-    /// This is the latest message of the sender that the process dropped since it is down, in this row.
-    DroppedLater {
-        p: ProcNo,
-        from: ProcNo,
-        msg: MsgNo,
-        row: RowNo,
-    },
-}
-
-/// What is so of a process.
-#[derive(Clone, Copy, Debug)]
-pub enum ProcessBreach {
-    /// It is also the other process of the row's message.
+    Dropped(MsgNo, RowNo),
+    /// The latest message that this process received from that one is this one, in this row.
+    ReceivedLater(ProcNo, ProcNo, MsgNo, RowNo),
+    /// The latest message of that process that this one dropped since it is down is this one, in this row.
+    DroppedLater(ProcNo, ProcNo, MsgNo, RowNo),
+    /// This process is both processes of the row's message.
     OwnPeer(ProcNo),
     /// It is down since this row.
-    Down { p: ProcNo, row: RowNo },
+    Down(ProcNo, RowNo),
     /// It is up.
     Up(ProcNo),
     /// It is in an open instance.
@@ -78,9 +37,27 @@ pub enum ProcessBreach {
     /// It is not in the instance.
     NotInside(Outside),
     /// It joined the instance in this row.
-    Joined { p: ProcNo, inst: InstNo, row: RowNo },
+    Joined(ProcNo, InstNo, RowNo),
     /// It is in the instance, which it joined in this row, and is asked to join it.
-    Member { p: ProcNo, inst: InstNo, row: RowNo },
+    Member(ProcNo, InstNo, RowNo),
+    /// It began the instance in the row before, as one of this kind.
+    JustBegun(ProcNo, InstNo, Kind),
+    /// The next instance to begin has this number.
+    Next(usize),
+    /// The instance has not begun.
+    NotBegun(InstNo),
+    /// It began as one of this kind, in this row.
+    OfKind(InstNo, Kind, RowNo),
+    /// It was begun by this process, in this row.
+    Initiator(InstNo, ProcNo, RowNo),
+    /// It was decided in this row.
+    Decided(InstNo, RowNo),
+    /// It is not decided.
+    Undecided(InstNo),
+    /// It is the one that is refused, and the one that the cause names.
+    OwnCause(InstNo),
+    /// No such command is refused for such a cause.
+    NoCause,
 }
 
 /// An open instance that a process is in, which it joined in this row.
@@ -108,108 +85,79 @@ pub struct Outside {
     pub closed: Option<RowNo>,
 }
 
-/// What is so of an instance.
-#[derive(Clone, Copy, Debug)]
-pub enum InstanceBreach {
-    /// The next one to begin has this number.
-    Next(usize),
-    /// It has not begun.
-    NotBegun(InstNo),
-    /// It was decided in this row.
-    Decided {
-        inst: InstNo,
-        row: RowNo,
-    },
-    /// It is not decided.
-    Undecided(InstNo),
-    /// It began in this row, as one of this kind.
-    OfKind {
-        inst: InstNo,
-        kind: Kind,
-        row: RowNo,
-    },
-    /// This process began it in this row.
-    Initiator {
-        inst: InstNo,
-        p: ProcNo,
-        row: RowNo,
-    },
-    /// This process began it in the row before, as one of this kind.
-    JustBegun {
-        p: ProcNo,
-        inst: InstNo,
-        kind: Kind,
-    },
-    /// It is the one that is refused, and the one that the cause names.
-    OwnCause(InstNo),
-}
-
 impl fmt::Display for Breach {
     fn fmt<W: fmt::Write>(&self, f: &mut fmt::Formatter<W>) -> fmt::Result {
         match *self {
-            Breach::Message(breach) => fmt::Display::fmt(&breach, f),
-            Breach::Process(breach) => fmt::Display::fmt(&breach, f),
-            Breach::Instance(breach) => fmt::Display::fmt(&breach, f),
-            Breach::NoCause => f.write_str("no such command is refused for such a cause"),
+            Breach::NotSent(m) => write!(f, "no row before this one sends message {m}"),
+            Breach::SentBetween(m, p, q) => {
+                write!(f, "message {m} is one of process {p} to process {q}")
+            }
+            Breach::Undone(m, ..) => write!(f, "the send of message {m} was undone"),
+            Breach::Received(p, _, m, row) => {
+                write!(f, "process {p} received message {m} before, in row {row}")
+            }
+            Breach::Dropped(m, row) => write!(f, "message {m} was dropped before, in row {row}"),
+            Breach::ReceivedLater(p, q, m, row) => write!(
+                f,
+                "process {p} received the later message {m} of process {q} before, in row {row}"
+            ),
+            Breach::DroppedLater(p, q, m, row) => write!(
+                f,
+                "process {p} dropped the later message {m} of process {q} before, in row {row}"
+            ),
+            Breach::OwnPeer(p) => write!(f, "both processes of the row are process {p}"),
+            Breach::Down(p, row) => write!(f, "process {p} is down since row {row}"),
+            Breach::Up(p) => write!(f, "process {p} is up"),
+            Breach::Inside(open) => write!(f, "{open}"),
+            Breach::Rolling(open) => write!(f, "{open}; it is a rollback"),
+            Breach::NotInside(outside) => write!(f, "{outside}"),
+            _ => write_of_instance(f, self),
         }
     }
 }
 
-impl fmt::Display for MessageBreach {
-    fn fmt<W: fmt::Write>(&self, f: &mut fmt::Formatter<W>) -> fmt::Result {
-        match *self {
-            MessageBreach::NotSent(msg) => write!(f, "no row before this one sends message {msg}"),
-            MessageBreach::SentBetween { msg, from, to } => {
-                write!(f, "message {msg} is one of process {from} to process {to}")
-            }
-            MessageBreach::Undone { msg, .. } => write!(f, "the send of message {msg} was undone"),
-            MessageBreach::Received { p, msg, row, .. } => {
-                write!(f, "process {p} received message {msg} before, in row {row}")
-            }
-            MessageBreach::Dropped { msg, row } => {
-                write!(f, "message {msg} was dropped before, in row {row}")
-            }
-            MessageBreach::ReceivedLater { p, from, msg, row } => write!(
-                f,
-                "process {p} received the later message {msg} of process {from} before, in row {row}"
-            ),
-            MessageBreach::DroppedLater { p, from, msg, row } => write!(
-                f,
-                "process {p} dropped the later message {msg} of process {from} before, in row {row}"
-            ),
+// What is so of an instance.
+fn write_of_instance<W: fmt::Write>(f: &mut fmt::Formatter<W>, breach: &Breach) -> fmt::Result {
+    match *breach {
+        Breach::Joined(p, k, row) => {
+            write!(f, "process {p} joined instance {k} before, in row {row}")
         }
+        Breach::Member(p, k, row) => write!(f, "process {p} is in instance {k} since row {row}"),
+        Breach::JustBegun(p, k, _) => write!(
+            f,
+            "process {p} began instance {k} in the row before, and does not join it in this one"
+        ),
+        Breach::Next(number) => write!(f, "the next instance to begin is {number}"),
+        Breach::NotBegun(k) => write!(f, "no row before this one begins instance {k}"),
+        Breach::OfKind(k, kind, row) => {
+            let kind = kind_word(kind);
+            write!(f, "instance {k} began in row {row}, as a {kind}")
+        }
+        Breach::Initiator(k, p, row) => write!(f, "process {p} began instance {k}, in row {row}"),
+        Breach::Decided(k, row) => write!(f, "instance {k} was decided before, in row {row}"),
+        Breach::Undecided(k) => write!(f, "no row before this one decides instance {k}"),
+        Breach::OwnCause(k) => write!(
+            f,
+            "instance {k} is the one that is refused and the one that the cause names"
+        ),
+        Breach::NoCause => f.write_str("no such command is refused for such a cause"),
+        _ => Ok(()),
     }
 }
 
-impl fmt::Display for ProcessBreach {
-    fn fmt<W: fmt::Write>(&self, f: &mut fmt::Formatter<W>) -> fmt::Result {
-        match *self {
-            ProcessBreach::OwnPeer(p) => write!(f, "both processes of the row are process {p}"),
-            ProcessBreach::Down { p, row } => write!(f, "process {p} is down since row {row}"),
-            ProcessBreach::Up(p) => write!(f, "process {p} is up"),
-            ProcessBreach::Inside(inside) => write!(f, "{inside}"),
-            ProcessBreach::Rolling(inside) => write!(f, "{inside}; it is a rollback"),
-            ProcessBreach::NotInside(outside) => write!(f, "{outside}"),
-            ProcessBreach::Joined { p, inst, row } => {
-                write!(f, "process {p} joined instance {inst} before, in row {row}")
-            }
-            ProcessBreach::Member { p, inst, row } => {
-                write!(f, "process {p} is in instance {inst} since row {row}")
-            }
-        }
+// A kind by its name.
+fn kind_word(kind: Kind) -> &'static str {
+    match kind {
+        Kind::Checkpoint => "checkpoint",
+        Kind::Rollback => "rollback",
     }
 }
 
 impl fmt::Display for Open {
     fn fmt<W: fmt::Write>(&self, f: &mut fmt::Formatter<W>) -> fmt::Result {
-        let Open {
-            p,
-            inst,
-            row,
-            decided,
-        } = *self;
+        let Open { p, inst, row, .. } = *self;
         write!(f, "process {p} is in instance {inst} since row {row}")?;
-        write_decision(f, decided)
+        write_decision(f, self.decided)
     }
 }
 
@@ -223,65 +171,21 @@ fn write_decision<W: fmt::Write>(f: &mut fmt::Formatter<W>, decided: Option<RowN
 
 impl fmt::Display for Outside {
     fn fmt<W: fmt::Write>(&self, f: &mut fmt::Formatter<W>) -> fmt::Result {
-        let Outside {
-            p,
-            inst,
-            open_in,
-            decided,
-            joined,
-            closed,
-        } = *self;
-        match open_in {
+        let Outside { p, inst, .. } = *self;
+        match self.open_in {
             Some(other) => {
                 write!(f, "process {p} is in instance {other}")?;
-                write_decision(f, decided)?;
+                write_decision(f, self.decided)?;
             }
             None => write!(f, "process {p} is in no instance")?,
         }
-        match joined {
+        match self.joined {
             Some(row) => write!(f, "; it joined instance {inst} in row {row}")?,
             None => write!(f, "; it has not joined instance {inst}")?,
         }
-        match closed {
+        match self.closed {
             Some(row) => write!(f, " and closed it in row {row}"),
             None => Ok(()),
-        }
-    }
-}
-
-impl fmt::Display for InstanceBreach {
-    fn fmt<W: fmt::Write>(&self, f: &mut fmt::Formatter<W>) -> fmt::Result {
-        match *self {
-            InstanceBreach::Next(number) => write!(f, "the next instance to begin is {number}"),
-            InstanceBreach::NotBegun(inst) => {
-                write!(f, "no row before this one begins instance {inst}")
-            }
-            InstanceBreach::Decided { inst, row } => {
-                write!(f, "instance {inst} was decided before, in row {row}")
-            }
-            InstanceBreach::Undecided(inst) => {
-                write!(f, "no row before this one decides instance {inst}")
-            }
-            InstanceBreach::OfKind { inst, kind, row } => match kind {
-                Kind::Checkpoint => write!(
-                    f,
-                    "instance {inst} began in row {row}, as a checkpoint"
-                ),
-                Kind::Rollback => write!(f, "instance {inst} began in row {row}, as a rollback"),
-            },
-            InstanceBreach::Initiator { inst, p, row } => {
-                write!(f, "process {p} began instance {inst}, in row {row}")
-            }
-            InstanceBreach::JustBegun { p, inst, .. } => write!(
-                f,
-                "process {p} began instance {inst} in the row before, and does not join it in this one"
-            ),
-            InstanceBreach::OwnCause(inst) => {
-                write!(
-                    f,
-                    "instance {inst} is the one that is refused and the one that the cause names"
-                )
-            }
         }
     }
 }

@@ -1,6 +1,6 @@
 //! A certificate that does not pass, beside the one that the log means.
 
-ghost use Rattle.std.specs.Prelude.{◌≡◌, ◌≤◌, ◌<◌, ℕ, List, Option, Some, length, slice_get, option_map, IfOk, IfSome, IfNone};
+ghost use Rattle.std.specs.Prelude.{◌≡◌, ◌↔◌, ◌≤◌, ◌<◌, ℕ, true, false, List, Option, Some, length, slice_get, option_map, IfOk, IfSome, IfNone, IsTrue};
 ghost use Rattle.kt_chain.specs.declared.certificate.Certificate.{Certificate as Certificates};
 ghost use Rattle.kt_checker.specs.declared.verdict.Verdict.TheVariants.{No};
 ghost use Rattle.kt_checker.specs.Order.{IsCheckerAnswer};
@@ -8,15 +8,14 @@ ghost use Rattle.kt_certify.specs.Certificates.{certificates as certificates_mea
 ghost use Rattle.kt_certify.specs.Faults.{HasNoChain, IsFaultOf};
 ghost use Rattle.kt_cuts.specs.Legal.{IsLegal};
 ghost use Rattle.kt_checker.specs.declared.verdict.Verdict.{Verdict};
-ghost use Rattle.kt_explain.specs.Compared.{AreAlike, DifferIn, IsAlone, IsDifference, IsFirstAt, IsOfCertificate, IsSecondAt, asks_all, asks_chains, certificate_at};
+ghost use Rattle.kt_explain.specs.Compared.{AreAlike, DifferAt, DifferIn, IsAlone, IsUnlikeAt, SameAt, SameHead, SameMembers, counted, IsDifference, IsFirstAt, IsOfCertificate, IsSecondAt, asks_all, asks_chains, certificate_at};
 ghost use Rattle.kt_explain.specs.Told.{IsCertificateNo, IsExplanation, IsItsFirst};
 
-use crate::differing::first_difference;
 use crate::explanation::Explanation;
 use crate::finding::{Sought, last_number};
-use kt_base::{InstNo, Memory, RowNo};
+use kt_base::{InstNo, Memory, MsgNo, ProcNo, RowNo};
 use kt_certify::{CertFault, certificates_of_legal_logs, certify};
-use kt_chain::Certificate;
+use kt_chain::{Certificate, Chain};
 use kt_checker::Why;
 use kt_spacetime::SpaceTime;
 use std::alloc::Global;
@@ -24,10 +23,8 @@ use std::alloc::Global;
 /// In what the certificates of an instance differ.
 #[derive(Clone, Copy, Debug)]
 pub enum Differs {
-    /// In the record at this place: 0 of that of the instance, from 1 on of those of its members.
-    Record(usize),
-    /// In that record, where chains don't count.
-    Process(usize),
+    /// In the record at this place: 0 of that of the instance, from 1 on of those of its members; whether chains count.
+    Record(usize, bool),
     /// The certificate at this place of the list, from 0, is a second one of the instance.
     Second(usize),
 }
@@ -130,8 +127,9 @@ fn differing(
 {
     let here = certificate_at(certificates, has);
     let there = certificate_at(meant, means);
-    match difference(here, there, asks_all(why), asks_chains(why)) {
-        Some(place) => Some(told_at(place, why)),
+    let chains = asks_chains(why);
+    match difference(here, there, asks_all(why), chains) {
+        Some(place) => Some(Differs::Record(place, chains)),
         None => match second_place(certificates, inst, has) {
             Some(place) => Some(Differs::Second(place)),
             None => None,
@@ -156,18 +154,6 @@ fn asks_chains(why: Why) -> bool
     match why {
         Why::Members => false,
         _ => true,
-    }
-}
-
-// A difference in the record at a place.
-fn told_at(place: usize, why: Why) -> Differs
-    ensures { (list meant : List Certificates) (k : ℕ) (has means : Option ℕ)
-        → DifferIn (asks_chains why) (certificate_at list has) (certificate_at meant means) place
-        → IsDifference list k has meant means result }
-{
-    match why {
-        Why::Members => Differs::Process(place),
-        _ => Differs::Record(place),
     }
 }
 
@@ -243,4 +229,91 @@ fn place_from(certificates: &[Certificate], inst: InstNo, from: usize) -> Option
         }
     }
     None
+}
+
+// The place of the first record in which two certificates differ: 0 of that of the instance, from 1 on of those of its
+// members, with their chains or without; of committed ones the members count only where all is compared.
+fn first_difference(
+    has: &Certificate,
+    means: &Certificate,
+    all: bool,
+    chains: bool,
+) -> Option<usize>
+    ensures differ { IfSome result (DifferAt chains has.now means.now) }
+    ensures head { IfNone result (SameHead has.now means.now) }
+    ensures all { IfNone result (all ≡ true → SameMembers chains has.now.members means.now.members) }
+    ensures aborted { IfNone result (has.now.commit ≡ false
+        → SameMembers chains has.now.members means.now.members) }
+{
+    if !is_same_head(has, means) {
+        return Some(0);
+    }
+    if has.commit && !all {
+        return None;
+    }
+    match first_unlike(has.members.list(), means.members.list(), chains) {
+        Some(index) => index.checked_add(1),
+        None => None,
+    }
+}
+
+// Whether the records of the instance are the same.
+fn is_same_head(has: &Certificate, means: &Certificate) -> bool
+    ensures { IsTrue result ↔ SameHead has.now means.now }
+{
+    has.kind == means.kind && has.initiator == means.initiator && has.commit == means.commit
+}
+
+// The first place at which two lists of members differ, with their chains or without.
+fn first_unlike(
+    listed: &[(ProcNo, Chain)],
+    meant: &[(ProcNo, Chain)],
+    chains: bool,
+) -> Option<usize>
+    ensures unlike { IfSome result (IsUnlikeAt chains listed.now meant.now) }
+    ensures same { IfNone result (SameMembers chains listed.now meant.now) }
+{
+    let count = listed.len().max(meant.len());
+    for index in 0..count {
+        if !is_same_at(listed, meant, index, chains) {
+            return Some(index);
+        }
+    }
+    None
+}
+
+// Whether two lists of members have the same at an index.
+fn is_same_at(
+    listed: &[(ProcNo, Chain)],
+    meant: &[(ProcNo, Chain)],
+    index: usize,
+    chains: bool,
+) -> bool
+    ensures { IsTrue result ↔ SameAt chains listed.now meant.now index }
+{
+    match listed.get(index) {
+        Some(here) => match meant.get(index) {
+            Some(there) => is_same(here, there, chains),
+            None => false,
+        },
+        None => meant.get(index).is_none(),
+    }
+}
+
+// Whether two members are the same, with the same chain where chains count.
+fn is_same(here: &(ProcNo, Chain), there: &(ProcNo, Chain), chains: bool) -> bool
+    ensures { IsTrue result ↔ (counted chains here.now ≡ counted chains there.now) }
+{
+    if chains {
+        here.0 == there.0 && is_same_chain(here.1.messages(), there.1.messages())
+    } else {
+        here.0 == there.0
+    }
+}
+
+// Whether two chains have the same messages.
+fn is_same_chain(here: &[MsgNo], there: &[MsgNo]) -> bool
+    ensures { IsTrue result ↔ (here.now ≡ there.now) }
+{
+    here == there
 }

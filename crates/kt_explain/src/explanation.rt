@@ -1,10 +1,22 @@
 //! What is told of an answer.
 
-use crate::bad_row::BadRow;
-use crate::compared::Compared;
-use crate::judged::Judged;
-use crate::orphans::Orphan;
-use kt_base::{InstNo, ProcNo, RowNo};
+ghost use Rattle.std.specs.Prelude.{◌≡◌, ◌≤◌, ◌^◌, List, Some, IfOk, length};
+ghost use Rattle.kt_chain.specs.declared.certificate.Certificate.{Certificate as Certificates};
+ghost use Rattle.kt_checker.specs.declared.verdict.Why.TheVariants as why;
+ghost use Rattle.kt_checker.specs.declared.verdict.Verdict.TheVariants.{No};
+ghost use Rattle.kt_checker.specs.Order.{IsCheckerAnswer};
+ghost use Rattle.kt_explain.specs.Told.{IsExplanation};
+
+use crate::bad_row::{BadRow, bad_log};
+use crate::compared::{Compared, compare};
+use crate::finding::{Sought, first_row};
+use crate::judged::{Judged, at_end};
+use crate::orphans::{Orphan, orphan_at};
+use kt_base::{InstNo, Memory, ProcNo, RowNo};
+use kt_chain::Certificate;
+use kt_checker::{Verdict, Why};
+use kt_spacetime::{Event, SpaceTime};
+use std::alloc::Global;
 use std::fmt;
 
 /// What is told of an answer of the checker, in the words of the log.
@@ -76,5 +88,83 @@ impl fmt::Display for Explanation {
             Explanation::Orphan { inst, orphan } => write!(f, "instance {inst}: {orphan}"),
             Explanation::BadLog(row) => write!(f, "{row}"),
         }
+    }
+}
+
+/// What is told of the checker's answer to a log and its certificates.
+pub fn explain(
+    alloc: Global,
+    log: &SpaceTime,
+    certificates: &[Certificate],
+    verdict: &Verdict,
+) -> Result<Explanation, Memory>
+    requires answer { IsCheckerAnswer log.now.rows certificates.now verdict.now }
+    ensures told { IfOk result (IsExplanation log.now.rows certificates.now verdict.now) }
+{
+    match *verdict {
+        Verdict::Yes => Ok(Explanation::Judged(at_end(alloc, log, certificates)?)),
+        Verdict::No { inst, row, why } => explain_no(alloc, log, certificates, inst, row, why),
+    }
+}
+
+// What is told of a no.
+fn explain_no(
+    alloc: Global,
+    log: &SpaceTime,
+    certificates: &[Certificate],
+    inst: Option<InstNo>,
+    row: Option<RowNo>,
+    why: Why,
+) -> Result<Explanation, Memory>
+    requires answer { IsCheckerAnswer log.now.rows certificates.now (No inst row why) }
+    ensures { IfOk result (IsExplanation log.now.rows certificates.now (No inst row why)) }
+{
+    match inst {
+        Some(inst) => of_instance(alloc, log, certificates, inst, row, why),
+        None => bad_log(alloc, log.rows(), row, why),
+    }
+}
+
+// What is told of a no to a certificate of an instance, or for the want of one.
+fn of_instance(
+    alloc: Global,
+    log: &SpaceTime,
+    certificates: &[Certificate],
+    inst: InstNo,
+    row: Option<RowNo>,
+    why: Why,
+) -> Result<Explanation, Memory>
+    requires answer { IsCheckerAnswer log.now.rows certificates.now (No (Some inst) row why) }
+    ensures { IfOk result (IsExplanation log.now.rows certificates.now (No (Some inst) row why)) }
+{
+    match why {
+        Why::Cause => match row {
+            Some(decided) => Ok(objection(log.rows(), inst, decided)),
+            None => Ok(Explanation::Nothing),
+        },
+        Why::Orphan => match row {
+            Some(row) => orphan_at(alloc, log, certificates, inst, row),
+            None => Ok(Explanation::Nothing),
+        },
+        Why::BadLog(_) => Ok(Explanation::Nothing),
+        _ => compare(alloc, log, certificates, inst, row, why),
+    }
+}
+
+// Who was first unwilling to join the instance that this row decides, or that nobody was.
+fn objection(rows: &[Event], inst: InstNo, decided: RowNo) -> Explanation
+    requires few { length rows.now ≤ 2 ^ 24 }
+    ensures { (certificates : List Certificates)
+        → IsCheckerAnswer rows.now certificates (No (Some inst) (Some decided) why.Cause)
+        → IsExplanation rows.now certificates (No (Some inst) (Some decided) why.Cause) result }
+{
+    let Some(found) = first_row(rows, &Sought::Unwilling(inst)) else {
+        return Explanation::NoObjection { inst, decided };
+    };
+    Explanation::Objection {
+        inst,
+        p: found.row.process(),
+        row: found.number,
+        decided,
     }
 }

@@ -1,7 +1,7 @@
 //! Rows that are sought in a log.
 
 ghost use Rattle.std.specs.Prelude.{◌≡◌, ◌≤◌, ◌^◌, length};
-ghost use Rattle.kt_explain.specs.Finding.{IsFirstFound, IsFirstNumber, IsLastFound, IsLastNumber, is_sought};
+ghost use Rattle.kt_explain.specs.Finding.{IsFirstFound, IsFirstNumber, IsLastNumber, is_sought};
 
 use kt_base::{InstNo, MsgNo, ProcNo, RowNo};
 use kt_spacetime::Event;
@@ -50,32 +50,18 @@ pub(crate) fn first_row(rows: &[Event], sought: &Sought) -> Option<Found>
     None
 }
 
-/// The last row that says what is sought.
-pub(crate) fn last_row(rows: &[Event], sought: &Sought) -> Option<Found>
-    requires few { length rows.now ≤ 2 ^ 24 }
-    ensures { IsLastFound (is_sought sought.now) rows.now result }
-{
-    let mut last = None;
-    for place in 0..rows.len() {
-        if is_sought(sought, &rows[place]) {
-            last = Some(Found {
-                number: RowNo::after(place),
-                row: rows[place],
-            });
-        }
-    }
-    last
-}
-
 /// The number of the last row that says what is sought.
 pub(crate) fn last_number(rows: &[Event], sought: &Sought) -> Option<RowNo>
     requires few { length rows.now ≤ 2 ^ 24 }
     ensures { IsLastNumber (is_sought sought.now) rows.now result }
 {
-    match last_row(rows, sought) {
-        Some(found) => Some(found.number),
-        None => None,
+    let mut last = None;
+    for place in 0..rows.len() {
+        if is_sought(sought, &rows[place]) {
+            last = Some(RowNo::after(place));
+        }
     }
+    last
 }
 
 /// The number of the first row that says what is sought.
@@ -89,8 +75,8 @@ pub(crate) fn first_number(rows: &[Event], sought: &Sought) -> Option<RowNo>
     }
 }
 
-// Whether a row says what is sought.
-fn is_sought(sought: &Sought, row: &Event) -> bool
+/// Whether a row says what is sought.
+pub(crate) fn is_sought(sought: &Sought, row: &Event) -> bool
     ensures { result ≡ is_sought sought.now row.now }
 {
     match *row {

@@ -1,6 +1,20 @@
 //! What is told of a log that passes: what was judged, and what it leaves open.
 
-use kt_base::{InstNo, ProcNo, ProcSet};
+ghost use Rattle.std.specs.Prelude.{◌≡◌, ◌≢◌, ◌≤◌, ◌<◌, ◌+◌, ◌^◌, ◌||◌, ◌↔◌, ◌++◌, not, ℕ, List, Option, Some, None, true, length, count_by, slice_get, option_to_list, Contains, IfOk, IsTrue};
+ghost use Rattle.kt_base.specs.Sets.{has};
+ghost use Rattle.kt_spacetime.specs.declared.event.Event.{Event as Events};
+ghost use Rattle.kt_cuts.specs.Past.{past};
+ghost use Rattle.kt_cuts.specs.Legal.{IsLegal, is_in};
+ghost use Rattle.kt_histories.specs.HistoriesOf.{HistoriesOf};
+ghost use Rattle.kt_explain.specs.declared.judged.OpenInstance.{OpenInstance as OpenInstances};
+ghost use Rattle.kt_explain.specs.Judged.{AreDecided, IsJudgedSo, IsOpenInstance, is_anyone_in, is_decided, is_left_open, begun_open, open_instances, receiver_in_transit, receivers_in_transit, is_drop};
+
+use crate::breach::before::begun_in;
+use kt_base::{InstNo, Kind, Memory, MsgNo, ProcNo, ProcSet};
+use kt_chain::Certificate;
+use kt_histories::Histories;
+use kt_spacetime::{Event, SpaceTime};
+use std::alloc::Global;
 use std::fmt;
 
 /// How many instances of a kind were committed, and how many aborted.
@@ -43,69 +57,39 @@ pub struct Judged {
 
 impl fmt::Display for Judged {
     fn fmt<W: fmt::Write>(&self, f: &mut fmt::Formatter<W>) -> fmt::Result {
-        let Judged {
-            rows,
-            instances,
-            checkpoints,
-            rollbacks,
-            ..
-        } = *self;
         write!(
             f,
-            "rows {rows}, instances {instances}: checkpoints {checkpoints}"
+            "rows {}, instances {}: checkpoints {}, rollbacks {}\n",
+            self.rows, self.instances, self.checkpoints, self.rollbacks
         )?;
-        write!(f, ", rollbacks {rollbacks}\n")?;
         for open in &self.open {
-            write_open(f, open)?;
+            if let Some(open) = open {
+                write!(f, "open: instance {}: ", open.inst)?;
+                write_processes(f, open.inside)?;
+            }
         }
         if self.open_count > 4 {
-            let more = self.open_count - 4;
-            write!(f, "open: {more} more\n")?;
+            write!(f, "open: {} more\n", self.open_count - 4)?;
         }
-        write_passing(f, self)
+        if self.in_transit > 0 {
+            write!(f, "in transit: {} to ", self.in_transit)?;
+            write_processes(f, self.receivers)?;
+        }
+        if self.down.count() > 0 {
+            f.write_str("down: ")?;
+            write_processes(f, self.down)?;
+        }
+        if self.dropped > 0 {
+            write!(f, "dropped: {}\n", self.dropped)?;
+        }
+        Ok(())
     }
 }
 
 impl fmt::Display for Decided {
     fn fmt<W: fmt::Write>(&self, f: &mut fmt::Formatter<W>) -> fmt::Result {
-        let Decided { committed, aborted } = *self;
-        write!(f, "{committed} committed {aborted} aborted")
+        write!(f, "{} committed {} aborted", self.committed, self.aborted)
     }
-}
-
-// An open instance, and who is in it.
-fn write_open<W: fmt::Write>(
-    f: &mut fmt::Formatter<W>,
-    open: &Option<OpenInstance>,
-) -> fmt::Result {
-    let Some(OpenInstance { inst, inside }) = *open else {
-        return Ok(());
-    };
-    write!(f, "open: instance {inst}: ")?;
-    write_processes(f, inside)
-}
-
-// The messages in transit, who is down, and the messages that were dropped, where there are any.
-fn write_passing<W: fmt::Write>(f: &mut fmt::Formatter<W>, judged: &Judged) -> fmt::Result {
-    let Judged {
-        in_transit,
-        receivers,
-        down,
-        dropped,
-        ..
-    } = *judged;
-    if in_transit > 0 {
-        write!(f, "in transit: {in_transit} to ")?;
-        write_processes(f, receivers)?;
-    }
-    if down.count() > 0 {
-        f.write_str("down: ")?;
-        write_processes(f, down)?;
-    }
-    if dropped > 0 {
-        write!(f, "dropped: {dropped}\n")?;
-    }
-    Ok(())
 }
 
 // The processes of a set, by rising number, to the end of the line.
@@ -121,4 +105,249 @@ fn write_processes<W: fmt::Write>(f: &mut fmt::Formatter<W>, set: ProcSet) -> fm
         }
     }
     f.write_str("\n")
+}
+
+/// What is told of a legal log that passes with these certificates.
+pub(crate) fn at_end(
+    alloc: Global,
+    log: &SpaceTime,
+    certificates: &[Certificate],
+) -> Result<Judged, Memory>
+    requires legal { IsLegal log.now.rows }
+    ensures { IfOk result (IsJudgedSo log.now.rows certificates.now) }
+{
+    let rows = log.rows();
+    let histories = Histories::of(alloc, log, rows.len())?;
+    let list = open_instances(alloc, &histories, rows)?;
+    let insts = list.as_slice();
+    let transit = in_transit(&histories, rows);
+    Ok(Judged {
+        rows: rows.len(),
+        instances: begun_in(rows),
+        checkpoints: decided_by(certificates, Kind::Checkpoint),
+        rollbacks: decided_by(certificates, Kind::Rollback),
+        open_count: insts.len(),
+        open: first_four(&histories, insts),
+        in_transit: transit.count,
+        receivers: transit.receivers,
+        down: down(&histories),
+        dropped: dropped(rows),
+    })
+}
+
+// How many certificates are of committed and of aborted instances of a kind.
+fn decided_by(certificates: &[Certificate], kind: Kind) -> Decided
+    ensures { AreDecided certificates.now kind result }
+{
+    Decided {
+        committed: count_decided(certificates, kind, true),
+        aborted: count_decided(certificates, kind, false),
+    }
+}
+
+// How many are of instances of a kind that were decided so.
+fn count_decided(certificates: &[Certificate], kind: Kind, commit: bool) -> usize
+    ensures { result ≡ count_by (is_decided kind commit) certificates.now }
+{
+    certificates
+        .iter()
+        .filter(|c| is_decided(c, kind, commit))
+        .count()
+}
+
+// Whether a certificate is of an instance of a kind that was decided so.
+fn is_decided(certificate: &Certificate, kind: Kind, commit: bool) -> bool
+    ensures { result ≡ is_decided kind commit certificate.now }
+{
+    certificate.kind == kind && certificate.commit == commit
+}
+
+// The open instances, in the order in which they began.
+fn open_instances(
+    alloc: Global,
+    histories: &Histories,
+    rows: &[Event],
+) -> Result<Vec<InstNo>, Memory>
+    requires histories { HistoriesOf histories.now rows.now }
+    ensures { IfOk result (λ list. list.items ≡ open_instances rows.now) }
+{
+    let list = rows
+        .iter()
+        .filter_map(|row| begun_open(histories, row))
+        .collect(alloc)?;
+    Ok(list)
+}
+
+// The instance that a row begins, if it is open.
+fn begun_open(histories: &Histories, row: &Event) -> Option<InstNo>
+    ensures { (rows : List Events) → HistoriesOf histories.now rows → result ≡ begun_open (past rows) row.now }
+{
+    match *row {
+        Event::Began { inst, .. } => {
+            if is_left_open(histories, inst) {
+                Some(inst)
+            } else {
+                None
+            }
+        }
+        _ => None,
+    }
+}
+
+// Whether an instance that began is open.
+fn is_left_open(histories: &Histories, inst: InstNo) -> bool
+    ensures { (rows : List Events) → HistoriesOf histories.now rows → result ≡ is_left_open (past rows) inst }
+{
+    histories.decision(inst).is_none() || is_anyone_in(histories, inst)
+}
+
+// Whether a process is in an instance.
+fn is_anyone_in(histories: &Histories, inst: InstNo) -> bool
+    ensures { (rows : List Events) → HistoriesOf histories.now rows → result ≡ is_anyone_in (past rows) inst }
+{
+    for number in 0..ProcNo::COUNT {
+        if is_in(histories, ProcNo::nth(number), inst) {
+            return true;
+        }
+    }
+    false
+}
+
+// The first four of these open instances, with the processes that are in each.
+fn first_four(histories: &Histories, insts: &[InstNo]) -> [Option<OpenInstance>; 4]
+    ensures { (rows : List Events) (i : ℕ) (o : Option OpenInstances) → HistoriesOf histories.now rows
+        → slice_get result i ≡ Some o → IsOpenInstance (past rows) (slice_get insts.now i) o }
+{
+    [
+        told_at(histories, insts, 0),
+        told_at(histories, insts, 1),
+        told_at(histories, insts, 2),
+        told_at(histories, insts, 3),
+    ]
+}
+
+// The open instance at an index, with the processes that are in it.
+fn told_at(histories: &Histories, insts: &[InstNo], index: usize) -> Option<OpenInstance>
+    ensures { (rows : List Events) → HistoriesOf histories.now rows
+        → IsOpenInstance (past rows) (slice_get insts.now index) result }
+{
+    match insts.get(index) {
+        Some(inst) => Some(OpenInstance {
+            inst: *inst,
+            inside: inside(histories, *inst),
+        }),
+        None => None,
+    }
+}
+
+// The processes that are in an instance.
+fn inside(histories: &Histories, inst: InstNo) -> ProcSet
+    ensures { (rows : List Events) (p : ℕ) → HistoriesOf histories.now rows → p < 64
+        → has result p ≡ is_in (past rows) p inst }
+{
+    let mut set = ProcSet::empty();
+    for number in 0..ProcNo::COUNT {
+        let p = ProcNo::nth(number);
+        set = with_if(set, p, is_in(histories, p, inst));
+    }
+    set
+}
+
+// Whether this process is in an instance.
+fn is_in(histories: &Histories, p: ProcNo, inst: InstNo) -> bool
+    ensures { (rows : List Events) → HistoriesOf histories.now rows → result ≡ is_in (past rows) p inst }
+{
+    match histories.open_in(p) {
+        Some(there) => there == inst,
+        None => false,
+    }
+}
+
+// The set with this process too, if that is wanted.
+fn with_if(set: ProcSet, p: ProcNo, is_wanted: bool) -> ProcSet
+    ensures itself { has result p ≡ (is_wanted || has set p) }
+    ensures others { (q : ℕ) → q ≢ p → has result q ≡ has set q }
+{
+    if is_wanted { set.with(p) } else { set }
+}
+
+// Messages in transit.
+#[derive(Clone, Copy)]
+struct Transit {
+    count: usize,
+    receivers: ProcSet,
+}
+
+// The messages in transit after these rows.
+fn in_transit(histories: &Histories, rows: &[Event]) -> Transit
+    requires few { length rows.now ≤ 2 ^ 24 }
+    requires histories { HistoriesOf histories.now rows.now }
+    ensures count { result.count ≡ length (receivers_in_transit rows.now) }
+    ensures receivers { (q : ℕ) → has result.receivers q ≡ true ↔ Contains (receivers_in_transit rows.now) q }
+{
+    let mut transit = Transit {
+        count: 0,
+        receivers: ProcSet::empty(),
+    };
+    for place in 0..rows.len() {
+        transit = with_message(&transit, receiver(histories, place, &rows[place]));
+    }
+    transit
+}
+
+// These messages, and perhaps one more to this process.
+fn with_message(transit: &Transit, to: Option<ProcNo>) -> Transit
+    requires few { transit.now.count < 2 ^ 24 }
+    ensures count { result.count ≡ transit.now.count + length (option_to_list to) }
+    ensures receivers { (list : List ℕ)
+        → ((q : ℕ) → has transit.now.receivers q ≡ true ↔ Contains list q)
+        → (q : ℕ) → has result.receivers q ≡ true ↔ Contains (list ++ option_to_list to) q }
+{
+    match to {
+        Some(to) => Transit {
+            count: transit.count + 1,
+            receivers: transit.receivers.with(to),
+        },
+        None => *transit,
+    }
+}
+
+// Who is to receive the message that the row at a place sent, if it is in transit.
+fn receiver(histories: &Histories, place: usize, row: &Event) -> Option<ProcNo>
+    requires { place < 2 ^ 24 }
+    ensures { (rows : List Events) → HistoriesOf histories.now rows
+        → result ≡ receiver_in_transit (past rows) (place + 1) (Some row.now) }
+{
+    match *row {
+        Event::Sent { p, to, .. } => {
+            if histories.is_undelivered(to, p, MsgNo::after(place)) {
+                Some(to)
+            } else {
+                None
+            }
+        }
+        _ => None,
+    }
+}
+
+// The processes that are down.
+fn down(histories: &Histories) -> ProcSet
+    ensures { (rows : List Events) (p : ℕ) → HistoriesOf histories.now rows → p < 64
+        → has result p ≡ not ((past rows).up p) }
+{
+    let mut set = ProcSet::empty();
+    for number in 0..ProcNo::COUNT {
+        let p = ProcNo::nth(number);
+        set = with_if(set, p, !histories.is_up(p));
+    }
+    set
+}
+
+// How many messages were dropped.
+fn dropped(rows: &[Event]) -> usize
+    ensures { result ≡ count_by is_drop rows.now }
+{
+    rows.iter()
+        .filter(|row| matches!(row, Event::Dropped { .. }))
+        .count()
 }

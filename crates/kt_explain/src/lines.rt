@@ -3,7 +3,7 @@
 ghost use Rattle.std.specs.Prelude.{◌≡◌, ◌≤◌, ◌+◌, All, IfSome, IsTrue, length, take};
 ghost use Rattle.kt_chain.specs.Spelling.{HasShortChains, certificate_records, records_of};
 
-use crate::compared::{Compared, Differs};
+use crate::compared::Differs;
 use crate::explanation::Explanation;
 use kt_base::{InstNo, Memory};
 use kt_chain::{Certificate, write_certs};
@@ -28,15 +28,11 @@ impl fmt::Display for Told<'_> {
         let Ok(row) = row_line(self.alloc, self.log.rows(), self.verdict) else {
             return Err(fmt::Error);
         };
-        let explanation = self.explanation;
-        write!(f, "{row}{explanation}")?;
-        let Explanation::Compared(compared) = explanation else {
-            return Ok(());
+        let Ok(records) = record_lines(self.alloc, self.certificates, self.explanation) else {
+            return Err(fmt::Error);
         };
-        match record_lines(self.alloc, self.certificates, compared) {
-            Ok(records) => f.write_str(records.as_str()),
-            Err(Memory) => Err(fmt::Error),
-        }
+        let explanation = self.explanation;
+        write!(f, "{row}{explanation}{records}")
     }
 }
 
@@ -52,24 +48,18 @@ fn row_line(alloc: Global, rows: &[Event], verdict: &Verdict) -> Result<String, 
     let Some(row) = rows.get(number.get() as usize - 1) else {
         return Ok(String::new(alloc));
     };
-    let text = row_text(alloc, *row)?;
-    let line = format!(in alloc; "row {number}: {text}\n")?;
-    Ok(line)
-}
-
-// A row, as the text of a log has it.
-fn row_text(alloc: Global, row: Event) -> Result<String, Memory> {
     let mut log = SpaceTime::new(alloc);
     log.reserve(1)?;
-    log.push_reserved(row);
+    log.push_reserved(*row);
     let mut text = Vec::new(alloc);
     if write_csv(alloc, &log, &mut text).is_err() {
         return Err(Memory);
     }
-    match line_at(alloc, text.as_slice(), 1)? {
-        Some(line) => Ok(line),
-        None => Err(Memory),
-    }
+    let Some(row) = line_at(alloc, text.as_slice(), 1)? else {
+        return Err(Memory);
+    };
+    let line = format!(in alloc; "row {number}: {row}\n")?;
+    Ok(line)
 }
 
 // The line of a text after so many others.
@@ -84,41 +74,46 @@ fn line_at(alloc: Global, text: &[u8], before: usize) -> Result<Option<String>, 
 fn record_lines(
     alloc: Global,
     certificates: &[Certificate],
-    told: &Compared,
+    explanation: &Explanation,
 ) -> Result<String, Memory> {
+    let Explanation::Compared(told) = explanation else {
+        return Ok(String::new(alloc));
+    };
     let inst = told.inst;
     let (has, place) = match told.differs {
-        Differs::Record(place) | Differs::Process(place) => (told.has, place),
+        Differs::Record(place, _) => (told.has, place),
         Differs::Second(second) => (Some(second), 0),
     };
-    let here = record_text(alloc, certificates, has, place)?;
-    let number = match has {
-        Some(index) if index < certificates.len() => record_number(certificates, index, place),
-        _ => None,
-    };
+    let here = has_line(alloc, certificates, inst, has, place)?;
     let there = record_text(alloc, told.meant.as_slice(), told.means, place)?;
-    let has = has_line(alloc, inst, &here, number)?;
     let lines = match (told.differs, &there) {
         (Differs::Second(_), _) => format!(in alloc;
-            "{has}it is a second certificate of instance {inst}\n"
+            "{here}it is a second certificate of instance {inst}\n"
         ),
-        (_, Some(text)) => format!(in alloc; "{has}the log means {text}\n"),
+        (_, Some(text)) => format!(in alloc; "{here}the log means {text}\n"),
         (_, None) if told.means.is_some() => {
-            format!(in alloc; "{has}the log means no more records of instance {inst}\n")
+            format!(in alloc; "{here}the log means no more records of instance {inst}\n")
         }
-        (_, None) => format!(in alloc; "{has}the log means none: no row decides instance {inst}\n"),
+        (_, None) => format!(in alloc;
+            "{here}the log means none: no row decides instance {inst}\n"
+        ),
     };
     Ok(lines?)
 }
 
-// What the certificates have.
+// What the certificates have at a place of the certificate at an index.
 fn has_line(
     alloc: Global,
+    certificates: &[Certificate],
     inst: InstNo,
-    text: &Option<String>,
-    number: Option<usize>,
+    index: Option<usize>,
+    place: usize,
 ) -> Result<String, Memory> {
-    let line = match (text, number) {
+    let number = match index {
+        Some(index) if index < certificates.len() => record_number(certificates, index, place),
+        _ => None,
+    };
+    let line = match (record_text(alloc, certificates, index, place)?, number) {
         (Some(text), Some(number)) => format!(in alloc;
             "record {number} of the certificates is {text}\n"
         ),

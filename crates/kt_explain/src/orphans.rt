@@ -6,19 +6,18 @@ ghost use Rattle.kt_cuts.specs.Past.{past, kind_of};
 ghost use Rattle.kt_cuts.specs.Legal.{IsLegal};
 ghost use Rattle.kt_cuts.specs.Cuts.{IsConsistent, IsOrphan};
 ghost use Rattle.kt_cuts.specs.Chains.{joins, members};
-ghost use Rattle.kt_chain.specs.declared.certificate.Certificate.{Certificate as Certificates};
 ghost use Rattle.kt_checker.specs.declared.verdict.Verdict.TheVariants.{No};
 ghost use Rattle.kt_checker.specs.declared.verdict.Why.TheVariants as why;
 ghost use Rattle.kt_checker.specs.Order.{IsCheckerAnswer};
 ghost use Rattle.kt_checker.specs.Passing.{decided_cut};
 ghost use Rattle.kt_histories.specs.HistoriesOf.{HistoriesOf};
-ghost use Rattle.kt_explain.specs.Orphans.{HasParts, IsOrphanTold};
-ghost use Rattle.kt_explain.specs.Undoing.{IsUndoing};
-ghost use Rattle.kt_explain.specs.Told.{IsItsFirst, IsExplanation};
+ghost use Rattle.kt_explain.specs.Told.{HasParts, IsOrphanTold};
+ghost use Rattle.kt_explain.specs.Breaches.{IsUndoing};
+ghost use Rattle.kt_explain.specs.Told.{IsExplanation};
 
 use crate::compared::first_of;
 use crate::explanation::Explanation;
-use crate::finding::{Sought, last_row};
+use crate::finding::{Sought, last_number};
 use crate::undoing::undoing;
 use kt_base::{InstNo, Kind, Memory, MsgNo, ProcNo, RowNo};
 use kt_chain::Certificate;
@@ -46,22 +45,15 @@ pub struct Orphan {
 
 impl fmt::Display for Orphan {
     fn fmt<W: fmt::Write>(&self, f: &mut fmt::Formatter<W>) -> fmt::Result {
-        let Orphan {
-            msg,
-            from,
-            to,
-            received,
-            undone,
-            ..
-        } = *self;
+        let Orphan { msg, from, to, .. } = *self;
         write!(
             f,
             "message {msg} is an orphan: process {from} sent it in row {msg}"
         )?;
-        if let Some(row) = undone {
+        if let Some(row) = self.undone {
             write!(f, ", which row {row} undid")?;
         }
-        write!(f, "; process {to} received it in row {received}\n")?;
+        write!(f, "; process {to} received it in row {}\n", self.received)?;
         let sender = member_word(self.is_sender_member);
         let receiver = member_word(self.is_receiver_member);
         write!(
@@ -87,24 +79,13 @@ pub(crate) fn orphan_at(
     requires answer { IsCheckerAnswer log.now.rows certificates.now (No (Some inst) (Some row) why.Orphan) }
     ensures { IfOk result (IsExplanation log.now.rows certificates.now (No (Some inst) (Some row) why.Orphan)) }
 {
-    let Some(kind) = kind_in_first(certificates, inst) else {
+    let Some(first) = first_of(certificates, inst) else {
         return Ok(Explanation::Nothing);
     };
-    match orphan_before(alloc, log, row.get() as usize - 1, inst, kind)? {
+    match orphan_before(alloc, log, row.get() as usize - 1, inst, first.kind)? {
         Some(orphan) => Ok(Explanation::Orphan { inst, orphan }),
         None => Ok(Explanation::Nothing),
     }
-}
-
-// The kind that the first certificate of an instance has.
-fn kind_in_first(certificates: &[Certificate], inst: InstNo) -> Option<Kind>
-    ensures kind { IfSome result (λ kind. (c : _) × IsItsFirst certificates.now inst c × (c.kind ≡ kind)) }
-    ensures none { IfNone result ((c : Certificates) → IsItsFirst certificates.now inst c → ⊥) }
-{
-    let Some(certificate) = first_of(certificates, inst) else {
-        return None;
-    };
-    Some(certificate.kind)
 }
 
 // The least orphan of the cut that the decision of an instance of this kind makes, after so many rows.
@@ -209,12 +190,12 @@ fn told_of(rows: &[Event], joined: &[ProcNo], msg: MsgNo, undone: Option<RowNo>)
     let Event::Sent { p: from, to, .. } = rows[index] else {
         return None;
     };
-    match last_row(rows, &Sought::Received(to, from, msg)) {
-        Some(found) => Some(Orphan {
+    match last_number(rows, &Sought::Received(to, from, msg)) {
+        Some(received) => Some(Orphan {
             msg,
             from,
             to,
-            received: found.number,
+            received,
             undone,
             is_sender_member: is_among(joined, from),
             is_receiver_member: is_among(joined, to),
@@ -268,10 +249,5 @@ fn length_in_cut(
 fn is_among(joined: &[ProcNo], p: ProcNo) -> bool
     ensures { IsTrue result ↔ Contains joined.now p }
 {
-    for index in 0..joined.len() {
-        if joined[index] == p {
-            return true;
-        }
-    }
-    false
+    joined.contains(&p)
 }

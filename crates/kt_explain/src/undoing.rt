@@ -5,9 +5,9 @@ ghost use Rattle.kt_spacetime.specs.declared.event.Event.{Event as Events};
 ghost use Rattle.kt_cuts.specs.Legal.{IsLegal};
 ghost use Rattle.kt_cuts.specs.Traces.{trace_of};
 ghost use Rattle.kt_histories.specs.HistoriesOf.{HistoriesOf};
-ghost use Rattle.kt_explain.specs.Undoing.{IsUndoing, IsUndoneIn, is_send_live};
+ghost use Rattle.kt_explain.specs.Breaches.{IsUndoing, IsUndoneIn, is_send_live};
 
-use crate::breach::{Breach, MessageBreach};
+use crate::breach::Breach;
 use kt_base::{Memory, MsgNo, RowNo};
 use kt_histories::Histories;
 use kt_spacetime::{Event, SpaceTime};
@@ -24,7 +24,7 @@ pub(crate) fn undone_in(
     ensures { IfOk result (λ row. IfSome row (IsUndoneIn rows.now breach.now)) }
 {
     match *breach {
-        Breach::Message(MessageBreach::Undone { msg, .. }) => undoing(alloc, rows, msg),
+        Breach::Undone(msg, _, _) => undoing(alloc, rows, msg),
         _ => Ok(None),
     }
 }
@@ -36,25 +36,11 @@ pub(crate) fn undoing(alloc: Global, rows: &[Event], msg: MsgNo) -> Result<Optio
     ensures { IfOk result (λ row. IfSome row (IsUndoing rows.now msg)) }
 {
     let mut histories = Histories::of(alloc, &SpaceTime::new(alloc), 0)?;
-    undoing_after(&mut histories, rows, msg)
-}
-
-// The last of these rows that undid the send of a message, after the histories of no row.
-fn undoing_after(
-    histories: &mut Histories,
-    rows: &[Event],
-    msg: MsgNo,
-) -> Result<Option<RowNo>, Memory>
-    requires few { length rows.now ≤ 2 ^ 24 }
-    requires legal { IsLegal rows.now }
-    requires histories { HistoriesOf histories.old [] }
-    ensures { IfOk result (λ row. IfSome row (IsUndoing rows.now msg)) }
-{
     let mut undone = None;
     for place in 0..rows.len() {
-        let was = is_send_live(histories, msg);
+        let was = is_send_live(&histories, msg);
         histories.add(&rows[place])?;
-        let is = is_send_live(histories, msg);
+        let is = is_send_live(&histories, msg);
         undone = undone_after(undone, was, is, place);
     }
     Ok(undone)

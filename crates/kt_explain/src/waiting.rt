@@ -1,7 +1,7 @@
 //! The messages that are in transit from one process to another before a row.
 
 ghost use Rattle.std.specs.Prelude.{◌≡◌, ◌≤◌, ◌<◌, ◌+◌, ◌^◌, ◌++◌, ◌∷◌, if◌then◌else◌, [], ℕ, List, OnOk};
-ghost use Rattle.kt_explain.specs.Waiting.{Notes};
+ghost use Rattle.kt_explain.specs.Breaches.{Notes};
 
 use crate::breach::before::Before;
 use kt_base::{Memory, MsgNo, ProcNo};
@@ -27,27 +27,21 @@ pub struct Waiting {
 
 impl fmt::Display for Waiting {
     fn fmt<W: fmt::Write>(&self, f: &mut fmt::Formatter<W>) -> fmt::Result {
-        let Waiting {
-            from,
-            to,
-            count,
-            least,
-            received,
-        } = self;
         write!(
             f,
-            "in transit from process {from} to process {to} before this row:"
+            "in transit from process {} to process {} before this row:",
+            self.from, self.to
         )?;
-        if least.is_empty() {
+        if self.least.is_empty() {
             f.write_str(" none")?;
         }
-        for msg in least {
+        for msg in &self.least {
             write!(f, " {msg}")?;
         }
-        if *count > least.len() {
-            write!(f, " and more, {count} in all")?;
+        if self.count > self.least.len() {
+            write!(f, " and more, {} in all", self.count)?;
         }
-        match received {
+        match self.received {
             Some(msg) => write!(f, "; received last: {msg}\n"),
             None => f.write_str("; received: none\n"),
         }
@@ -80,7 +74,7 @@ impl Waiting {
 impl Before<'_> {
     ghost use Rattle.std.specs.Prelude.{IfOk};
     ghost use Rattle.kt_explain.specs.Breaches.{KnowsBefore};
-    ghost use Rattle.kt_explain.specs.Waiting.{IsWaiting, IsWaitingAt};
+    ghost use Rattle.kt_explain.specs.Breaches.{IsWaiting, IsWaitingAt};
 
     /// What is in transit between the two processes of a row that takes a message.
     pub(crate) fn waiting_at(&self, alloc: Global, row: &Event) -> Result<Option<Waiting>, Memory>

@@ -1,4 +1,4 @@
-//! What is known before a row, and the demands of the rules on it: an error tells what is against the demand.
+//! What is known before a row, and whether what the rules demand of the row is so: an error tells what is against it.
 
 ghost use Rattle.std.specs.Prelude.{◌≡◌, ◌≤◌, ◌+◌, ◌^◌, ◌==◌, ℕ, not, is_none, is_some, false, [], List, Some, OnOk, IfOk, IfNone, IfSome, length};
 ghost use Rattle.kt_base.specs.declared.words.Kind.{Kind as Kinds};
@@ -9,9 +9,11 @@ ghost use Rattle.kt_cuts.specs.Legal.{IsLegal, follows};
 ghost use Rattle.kt_histories.specs.HistoriesOf.{HistoriesOf};
 ghost use Rattle.kt_explain.specs.Breaches.{IsJudged};
 
-use crate::breach::{Breach, InstanceBreach, Open, Outside, ProcessBreach};
-use crate::finding::{Found, Sought, first_row, last_number};
+use crate::breach::demands::{Demand, demands};
+use crate::breach::{Breach, Open, Outside};
+use crate::finding::{Found, Sought, first_row, is_sought, last_number};
 use kt_base::{InstNo, Kind, Memory, ProcNo, RowNo};
+use kt_cuts::Rule;
 use kt_histories::Histories;
 use kt_spacetime::{Event, SpaceTime};
 use std::alloc::Global;
@@ -32,8 +34,10 @@ struct BegunIn {
 }
 
 impl Before<'_> {
-    ghost use Rattle.kt_cuts.specs.Past.{past, is_checkpoint, is_rollback, is_member, initiator_of, beginning_of};
-    ghost use Rattle.kt_cuts.specs.Legal.{IsLegal, has_begun, is_in, is_in_none, is_instance, is_join, is_rolling, is_undecided};
+    ghost use Rattle.kt_cuts.specs.Past.{past, is_rollback, is_member, initiator_of, beginning_of};
+    ghost use Rattle.kt_cuts.specs.Legal.{IsLegal, has_begun, is_in, is_in_none, is_instance, is_join, is_rolling, keeps};
+    ghost use Rattle.kt_explain.specs.declared.breach.demands.Demand.TheVariants.{OfKind};
+    ghost use Rattle.kt_explain.specs.Demands.{asks};
     ghost use Rattle.kt_explain.specs.Breaches.{KnowsBefore, IsDecidedIn, IsJudged, IsLastIn, IsOpen};
     ghost use Rattle.kt_explain.specs.Finding.{IsFirstRow, begins_inst};
 
@@ -49,44 +53,83 @@ impl Before<'_> {
         Ok(Before { rows, histories })
     }
 
-    /// The process is up.
-    pub(crate) fn up(&self, p: ProcNo) -> Result<(), Breach>
+    /// What breaks the first demand of a rule on a row that is not met.
+    pub(crate) fn broken(&self, rule: Rule, row: &Event) -> Option<Breach>
+        requires before { KnowsBefore self.now }
+        ensures { IsJudged self.now.rows.now (λ s. keeps rule s row.now) result }
+    {
+        for demand in &demands(rule, row) {
+            if let Some(breach) = self.against(demand) {
+                return Some(breach);
+            }
+        }
+        None
+    }
+
+    // What is against a demand.
+    fn against(&self, demand: &Demand) -> Option<Breach>
+        requires before { KnowsBefore self.now }
+        ensures { IsJudged self.now.rows.now (asks demand.now) result }
+    {
+        match *demand {
+            Demand::Nothing => None,
+            Demand::Never => Some(Breach::NoCause),
+            Demand::OtherPeer(p, peer) => other_peer(p, peer),
+            Demand::OtherCause(inst, cause) => other_cause(inst, cause),
+            Demand::Next(inst) => self.next(inst),
+            Demand::Begun(inst) => self.begun(inst),
+            Demand::Sent(p, from, msg) => self.sent(p, from, msg),
+            Demand::NotReceived(p, from, msg) => self.not_received(p, from, msg),
+            Demand::NotDropped(msg) => self.not_dropped(msg),
+            Demand::AfterReceived(p, from, msg) => self.after_received(p, from, msg),
+            Demand::AfterDropped(p, from, msg) => self.after_dropped(p, from, msg),
+            Demand::Up(p) => self.up(p),
+            Demand::Down(p) => self.down(p),
+            Demand::Idle(p) => self.idle(p),
+            Demand::NotRolling(p) => self.not_rolling(p),
+            Demand::Inside(p, inst) => self.inside(p, inst),
+            Demand::NotInside(p, inst) => self.not_member(p, inst),
+            Demand::NotJoined(p, inst) => self.not_joined(p, inst),
+            Demand::Follows(row) => self.follows(&row),
+            Demand::OfKind(inst, kind) => self.of_kind(inst, kind),
+            Demand::Initiator(p, inst) => self.initiator(p, inst),
+            Demand::Undecided(inst) => self.undecided(inst),
+            Demand::Decided(inst) => self.decided(inst),
+        }
+    }
+
+    // The process is up.
+    fn up(&self, p: ProcNo) -> Option<Breach>
         requires before { KnowsBefore self.now }
         ensures { IsJudged self.now.rows.now (λ s. s.up p) result }
     {
         if self.histories.is_up(p) {
-            return Ok(());
+            return None;
         }
-        match last_number(self.rows, &Sought::Failed(p)) {
-            Some(row) => Err(Breach::Process(ProcessBreach::Down { p, row })),
-            None => Ok(()),
-        }
+        let row = last_number(self.rows, &Sought::Failed(p))?;
+        Some(Breach::Down(p, row))
     }
 
-    /// The process is down.
-    pub(crate) fn down(&self, p: ProcNo) -> Result<(), Breach>
+    // The process is down.
+    fn down(&self, p: ProcNo) -> Option<Breach>
         requires before { KnowsBefore self.now }
         ensures { IsJudged self.now.rows.now (λ s. not (s.up p)) result }
     {
         if self.histories.is_up(p) {
-            Err(Breach::Process(ProcessBreach::Up(p)))
+            Some(Breach::Up(p))
         } else {
-            Ok(())
+            None
         }
     }
 
-    /// The process is in no open instance.
-    pub(crate) fn idle(&self, p: ProcNo) -> Result<(), Breach>
+    // The process is in no open instance.
+    fn idle(&self, p: ProcNo) -> Option<Breach>
         requires before { KnowsBefore self.now }
         ensures { IsJudged self.now.rows.now (λ s. is_in_none s p) result }
     {
-        let Some(inst) = self.histories.open_in(p) else {
-            return Ok(());
-        };
-        match last_number(self.rows, &Sought::Joined(p, inst)) {
-            Some(row) => Err(Breach::Process(ProcessBreach::Inside(self.open_at(p, inst, row)))),
-            None => Ok(()),
-        }
+        let inst = self.histories.open_in(p)?;
+        let row = last_number(self.rows, &Sought::Joined(p, inst))?;
+        Some(Breach::Inside(self.open_at(p, inst, row)))
     }
 
     // The open instance that the process is in, which it joined last in this row.
@@ -106,54 +149,48 @@ impl Before<'_> {
         }
     }
 
-    /// The process is in no open rollback.
-    pub(crate) fn not_rolling(&self, p: ProcNo) -> Result<(), Breach>
+    // The process is in no open rollback.
+    fn not_rolling(&self, p: ProcNo) -> Option<Breach>
         requires before { KnowsBefore self.now }
         ensures { IsJudged self.now.rows.now (λ s. not (is_rolling s p)) result }
     {
-        let Some(inst) = self.histories.open_in(p) else {
-            return Ok(());
-        };
+        let inst = self.histories.open_in(p)?;
         if !self.is_rollback(inst) {
-            return Ok(());
+            return None;
         }
-        match last_number(self.rows, &Sought::Joined(p, inst)) {
-            Some(row) => Err(Breach::Process(ProcessBreach::Rolling(self.open_at(p, inst, row)))),
-            None => Ok(()),
-        }
+        let row = last_number(self.rows, &Sought::Joined(p, inst))?;
+        Some(Breach::Rolling(self.open_at(p, inst, row)))
     }
 
-    /// The process is not in this open instance, which it is asked to join.
-    pub(crate) fn not_member(&self, p: ProcNo, inst: InstNo) -> Result<(), Breach>
+    // The process is not in this open instance, which it is asked to join.
+    fn not_member(&self, p: ProcNo, inst: InstNo) -> Option<Breach>
         requires before { KnowsBefore self.now }
         ensures { IsJudged self.now.rows.now (λ s. not (is_in s p inst)) result }
     {
         if self.histories.open_in(p) != Some(inst) {
-            return Ok(());
+            return None;
         }
-        match last_number(self.rows, &Sought::Joined(p, inst)) {
-            Some(row) => Err(Breach::Process(ProcessBreach::Member { p, inst, row })),
-            None => Ok(()),
-        }
+        let row = last_number(self.rows, &Sought::Joined(p, inst))?;
+        Some(Breach::Member(p, inst, row))
     }
 
-    /// The process is in this open instance.
-    pub(crate) fn inside(&self, p: ProcNo, inst: InstNo) -> Result<(), Breach>
+    // The process is in this open instance.
+    fn inside(&self, p: ProcNo, inst: InstNo) -> Option<Breach>
         requires before { KnowsBefore self.now }
         ensures { IsJudged self.now.rows.now (λ s. is_in s p inst) result }
     {
         let open_in = self.histories.open_in(p);
         if open_in == Some(inst) {
-            return Ok(());
+            return None;
         }
-        Err(Breach::Process(ProcessBreach::NotInside(Outside {
+        Some(Breach::NotInside(Outside {
             p,
             inst,
             open_in,
             decided: self.decided_in(open_in),
             joined: last_number(self.rows, &Sought::Joined(p, inst)),
             closed: last_number(self.rows, &Sought::Closed(p, inst)),
-        })))
+        }))
     }
 
     // The row that decided an open instance.
@@ -164,118 +201,101 @@ impl Before<'_> {
         last_number(self.rows, &Sought::Decided(open_in?))
     }
 
-    /// The process has not joined the instance.
-    pub(crate) fn not_joined(&self, p: ProcNo, inst: InstNo) -> Result<(), Breach>
+    // The process has not joined the instance.
+    fn not_joined(&self, p: ProcNo, inst: InstNo) -> Option<Breach>
         requires before { KnowsBefore self.now }
         ensures { IsJudged self.now.rows.now (λ s. not (is_member s inst p)) result }
     {
-        match last_number(self.rows, &Sought::Joined(p, inst)) {
-            Some(row) => Err(Breach::Process(ProcessBreach::Joined { p, inst, row })),
-            None => Ok(()),
-        }
+        let row = last_number(self.rows, &Sought::Joined(p, inst))?;
+        Some(Breach::Joined(p, inst, row))
     }
 
-    /// The instance has begun.
-    pub(crate) fn begun(&self, inst: InstNo) -> Result<(), Breach>
+    // The instance has begun.
+    fn begun(&self, inst: InstNo) -> Option<Breach>
         requires before { KnowsBefore self.now }
         ensures { IsJudged self.now.rows.now (λ s. has_begun s inst) result }
     {
         match self.beginning(inst) {
-            Some(_) => Ok(()),
-            None => Err(Breach::Instance(InstanceBreach::NotBegun(inst))),
+            Some(_) => None,
+            None => Some(Breach::NotBegun(inst)),
         }
     }
 
-    /// The instance has the number of the next one to begin.
-    pub(crate) fn next(&self, inst: InstNo) -> Result<(), Breach>
+    // The instance has the number of the next one to begin.
+    fn next(&self, inst: InstNo) -> Option<Breach>
         requires before { KnowsBefore self.now }
         ensures { IsJudged self.now.rows.now (λ s. inst == length s.begun + 1) result }
     {
         let next = begun_in(self.rows) + 1;
         if inst.get() as usize == next {
-            Ok(())
+            None
         } else {
-            Err(Breach::Instance(InstanceBreach::Next(next)))
+            Some(Breach::Next(next))
         }
     }
 
-    /// The instance has begun, and is not decided.
-    pub(crate) fn undecided(&self, inst: InstNo) -> Result<(), Breach>
-        requires before { KnowsBefore self.now }
-        ensures { IsJudged self.now.rows.now (λ s. is_undecided s inst) result }
-    {
-        if let Err(breach) = self.begun(inst) {
-            return Err(breach);
-        }
-        self.no_decision(inst)
-    }
-
-    // The instance has no decision.
-    fn no_decision(&self, inst: InstNo) -> Result<(), Breach>
+    // The instance is not decided.
+    fn undecided(&self, inst: InstNo) -> Option<Breach>
         requires before { KnowsBefore self.now }
         ensures { IsJudged self.now.rows.now (λ s. is_none (s.decision inst)) result }
     {
-        match last_number(self.rows, &Sought::Decided(inst)) {
-            Some(row) => Err(Breach::Instance(InstanceBreach::Decided { inst, row })),
-            None => Ok(()),
-        }
+        let row = last_number(self.rows, &Sought::Decided(inst))?;
+        Some(Breach::Decided(inst, row))
     }
 
-    /// The instance is decided.
-    pub(crate) fn decided(&self, inst: InstNo) -> Result<(), Breach>
+    // The instance is decided.
+    fn decided(&self, inst: InstNo) -> Option<Breach>
         requires before { KnowsBefore self.now }
         ensures { IsJudged self.now.rows.now (λ s. is_some (s.decision inst)) result }
     {
         match self.histories.decision(inst) {
-            Some(_) => Ok(()),
-            None => Err(Breach::Instance(InstanceBreach::Undecided(inst))),
+            Some(_) => None,
+            None => Some(Breach::Undecided(inst)),
         }
     }
 
-    /// The instance is a checkpoint.
-    pub(crate) fn checkpoint(&self, inst: InstNo) -> Result<(), Breach>
+    // The instance is of this kind.
+    fn of_kind(&self, inst: InstNo, kind: Kind) -> Option<Breach>
         requires before { KnowsBefore self.now }
-        ensures { IsJudged self.now.rows.now (λ s. is_checkpoint s inst) result }
+        ensures { IsJudged self.now.rows.now (asks (OfKind inst kind)) result }
     {
-        let Some(BegunIn { row, kind, .. }) = self.beginning(inst) else {
-            return Err(Breach::Instance(InstanceBreach::NotBegun(inst)));
+        let Some(begun) = self.beginning(inst) else {
+            return Some(Breach::NotBegun(inst));
         };
-        match kind {
-            Kind::Checkpoint => Ok(()),
-            Kind::Rollback => Err(Breach::Instance(InstanceBreach::OfKind { inst, kind, row })),
+        if begun.kind == kind {
+            None
+        } else {
+            Some(Breach::OfKind(inst, begun.kind, begun.row))
         }
     }
 
-    /// The instance is a rollback.
-    pub(crate) fn rollback(&self, inst: InstNo) -> Result<(), Breach>
-        requires before { KnowsBefore self.now }
-        ensures { IsJudged self.now.rows.now (λ s. is_rollback s inst) result }
-    {
-        let Some(BegunIn { row, kind, .. }) = self.beginning(inst) else {
-            return Err(Breach::Instance(InstanceBreach::NotBegun(inst)));
-        };
-        match kind {
-            Kind::Checkpoint => Err(Breach::Instance(InstanceBreach::OfKind { inst, kind, row })),
-            Kind::Rollback => Ok(()),
-        }
-    }
-
-    /// The process is the initiator of the instance.
-    pub(crate) fn initiator(&self, p: ProcNo, inst: InstNo) -> Result<(), Breach>
+    // The process is the initiator of the instance.
+    fn initiator(&self, p: ProcNo, inst: InstNo) -> Option<Breach>
         requires before { KnowsBefore self.now }
         ensures { IsJudged self.now.rows.now (λ s. is_instance (initiator_of s inst) p) result }
     {
         let Some(BegunIn { row, p: first, .. }) = self.beginning(inst) else {
-            return Err(Breach::Instance(InstanceBreach::NotBegun(inst)));
+            return Some(Breach::NotBegun(inst));
         };
         if first == p {
-            Ok(())
+            None
         } else {
-            Err(Breach::Instance(InstanceBreach::Initiator {
-                inst,
-                p: first,
-                row,
-            }))
+            Some(Breach::Initiator(inst, first, row))
+        }
+    }
+
+    // The row after a beginning is the initiator's joining.
+    fn follows(&self, row: &Event) -> Option<Breach>
+        requires before { KnowsBefore self.now }
+        ensures { IsJudged self.now.rows.now (λ s. follows s.last row.now) result }
+    {
+        let Some(Event::Began { p, inst, kind }) = self.rows.last() else {
+            return None;
+        };
+        if is_sought(&Sought::Joined(*p, *inst), row) {
+            None
+        } else {
+            Some(Breach::JustBegun(*p, *inst, *kind))
         }
     }
 
@@ -359,41 +379,24 @@ fn count_of(row: &Event) -> usize
     }
 }
 
-/// The other process of a message is another one.
-pub(crate) fn other_peer(p: ProcNo, peer: ProcNo) -> Result<(), Breach>
+// The other process of a message is another one.
+fn other_peer(p: ProcNo, peer: ProcNo) -> Option<Breach>
     ensures { (rows : List Events) → IsJudged rows (λ s. not (peer == p)) result }
 {
     if peer == p {
-        Err(Breach::Process(ProcessBreach::OwnPeer(p)))
+        Some(Breach::OwnPeer(p))
     } else {
-        Ok(())
+        None
     }
 }
 
-/// The instance that a cause names is another one than the instance that is refused.
-pub(crate) fn other_cause(inst: InstNo, cause: InstNo) -> Result<(), Breach>
+// The instance that a cause names is another one than the instance that is refused.
+fn other_cause(inst: InstNo, cause: InstNo) -> Option<Breach>
     ensures { (rows : List Events) → IsJudged rows (λ s. not (cause == inst)) result }
 {
     if cause == inst {
-        Err(Breach::Instance(InstanceBreach::OwnCause(inst)))
+        Some(Breach::OwnCause(inst))
     } else {
-        Ok(())
-    }
-}
-
-/// A row after the one in which a process began an instance is that process's joining.
-pub(crate) fn joins(p: ProcNo, inst: InstNo, kind: Kind, row: &Event) -> Result<(), Breach>
-    ensures { (rows : List Events) → (past rows).last ≡ Some (event.Began p inst kind)
-        → IsJudged rows (λ s. follows s.last row.now) result }
-{
-    match *row {
-        Event::Took { p: q, inst: joined } | Event::Ready { p: q, inst: joined } => {
-            if q == p && joined == inst {
-                Ok(())
-            } else {
-                Err(Breach::Instance(InstanceBreach::JustBegun { p, inst, kind }))
-            }
-        }
-        _ => Err(Breach::Instance(InstanceBreach::JustBegun { p, inst, kind })),
+        None
     }
 }

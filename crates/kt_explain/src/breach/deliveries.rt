@@ -1,12 +1,12 @@
-//! The demands of the rules on a message: that it is undelivered, and comes after what was received and dropped before.
+//! What the rules demand of a message: that it is undelivered, and comes after what was received and dropped before.
 
 ghost use Rattle.std.specs.Prelude.{◌≡◌, ◌↔◌, IsTrue, None};
 ghost use Rattle.kt_cuts.specs.Past.{Past, past, after};
 ghost use Rattle.kt_cuts.specs.Legal.{IsLegal, broken_rule};
 ghost use Rattle.kt_explain.specs.Breaches.{IsLastDropped};
 
+use crate::breach::Breach;
 use crate::breach::before::Before;
-use crate::breach::{Breach, MessageBreach};
 use crate::finding::{Sought, last_number};
 use kt_base::{MsgNo, ProcNo};
 use kt_cuts::{Trace, is_after};
@@ -16,56 +16,37 @@ impl Before<'_> {
     ghost use Rattle.std.specs.Prelude.{◌≡◌, if◌then◌else◌, not, true, ℕ, Some, IfNone, IfSome};
     ghost use Rattle.std.specs.List.{list_all};
     ghost use Rattle.kt_cuts.specs.Past.{past};
-    ghost use Rattle.kt_cuts.specs.Legal.{is_undelivered, is_latest, is_later};
-    ghost use Rattle.kt_explain.specs.Breaches.{KnowsBefore, IsJudged, IsLatestFrom, has_sent, has_received};
+    ghost use Rattle.kt_cuts.specs.Legal.{is_later};
+    ghost use Rattle.kt_explain.specs.Breaches.{KnowsBefore, IsJudged, IsLatestFrom};
+    ghost use Rattle.kt_explain.specs.Demands.{has_sent, has_received};
 
-    /// The message was sent to the process, and not undone, received or dropped.
-    pub(crate) fn undelivered(&self, p: ProcNo, from: ProcNo, msg: MsgNo) -> Result<(), Breach>
-        requires before { KnowsBefore self.now }
-        ensures { IsJudged self.now.rows.now (λ s. is_undelivered s p from msg) result }
-    {
-        if let Err(breach) = self.sent(p, from, msg) {
-            return Err(breach);
-        }
-        if let Err(breach) = self.not_received(p, from, msg) {
-            return Err(breach);
-        }
-        self.not_dropped(msg)
-    }
-
-    // The sender has sent the process the message, and the send was not undone.
-    fn sent(&self, p: ProcNo, from: ProcNo, msg: MsgNo) -> Result<(), Breach>
+    /// The sender has sent the process the message, and the send was not undone.
+    pub(crate) fn sent(&self, p: ProcNo, from: ProcNo, msg: MsgNo) -> Option<Breach>
         requires before { KnowsBefore self.now }
         ensures { IsJudged self.now.rows.now (λ s. has_sent s from p msg) result }
     {
         let Some(trace) = self.histories.trace(msg) else {
-            return Err(Breach::Message(MessageBreach::NotSent(msg)));
+            return Some(Breach::NotSent(msg));
         };
         if !is_between(&trace, from, p) {
-            return Err(Breach::Message(MessageBreach::SentBetween {
-                msg,
-                from: trace.from,
-                to: trace.to,
-            }));
+            return Some(Breach::SentBetween(msg, trace.from, trace.to));
         }
         match trace.sent {
-            Some(_) => Ok(()),
-            None => Err(Breach::Message(MessageBreach::Undone { msg, from, to: p })),
+            Some(_) => None,
+            None => Some(Breach::Undone(msg, from, p)),
         }
     }
 
-    // The process has not received the message.
-    fn not_received(&self, p: ProcNo, from: ProcNo, msg: MsgNo) -> Result<(), Breach>
+    /// The process has not received the message.
+    pub(crate) fn not_received(&self, p: ProcNo, from: ProcNo, msg: MsgNo) -> Option<Breach>
         requires before { KnowsBefore self.now }
         ensures { IsJudged self.now.rows.now (λ s. not (has_received s p from msg)) result }
     {
         if !self.has_received(p, from, msg) {
-            return Ok(());
+            return None;
         }
-        match last_number(self.rows, &Sought::Received(p, from, msg)) {
-            Some(row) => Err(Breach::Message(MessageBreach::Received { p, from, msg, row })),
-            None => Ok(()),
-        }
+        let row = last_number(self.rows, &Sought::Received(p, from, msg))?;
+        Some(Breach::Received(p, from, msg, row))
     }
 
     // Whether the process received the message, as its live history has it.
@@ -82,48 +63,26 @@ impl Before<'_> {
         trace.received.is_some()
     }
 
-    // The message was not dropped.
-    fn not_dropped(&self, msg: MsgNo) -> Result<(), Breach>
+    /// The message was not dropped.
+    pub(crate) fn not_dropped(&self, msg: MsgNo) -> Option<Breach>
         requires before { KnowsBefore self.now }
         ensures { IsJudged self.now.rows.now (λ s. not (s.dropped msg)) result }
     {
-        match last_number(self.rows, &Sought::Dropped(msg)) {
-            Some(row) => Err(Breach::Message(MessageBreach::Dropped { msg, row })),
-            None => Ok(()),
-        }
+        let row = last_number(self.rows, &Sought::Dropped(msg))?;
+        Some(Breach::Dropped(msg, row))
     }
 
-    /// The process has neither received nor dropped a later message of the sender.
-    pub(crate) fn latest(&self, p: ProcNo, from: ProcNo, msg: MsgNo) -> Result<(), Breach>
-        requires before { KnowsBefore self.now }
-        ensures { IsJudged self.now.rows.now (λ s. is_latest s p from msg) result }
-    {
-        if let Err(breach) = self.after_received(p, from, msg) {
-            return Err(breach);
-        }
-        self.after_dropped(p, from, msg)
-    }
-
-    // The process has received no later message of the sender.
-    fn after_received(&self, p: ProcNo, from: ProcNo, msg: MsgNo) -> Result<(), Breach>
+    /// The process has received no later message of the sender.
+    pub(crate) fn after_received(&self, p: ProcNo, from: ProcNo, msg: MsgNo) -> Option<Breach>
         requires before { KnowsBefore self.now }
         ensures { IsJudged self.now.rows.now (λ s. list_all (is_later from msg) (s.live p)) result }
     {
-        let Some(latest) = self.latest_received(p, from) else {
-            return Ok(());
-        };
+        let latest = self.latest_received(p, from)?;
         if is_after(msg, Some(latest)) {
-            return Ok(());
+            return None;
         }
-        match last_number(self.rows, &Sought::Received(p, from, latest)) {
-            Some(row) => Err(Breach::Message(MessageBreach::ReceivedLater {
-                p,
-                from,
-                msg: latest,
-                row,
-            })),
-            None => Ok(()),
-        }
+        let row = last_number(self.rows, &Sought::Received(p, from, latest))?;
+        Some(Breach::ReceivedLater(p, from, latest, row))
     }
 
     /// The latest message of the sender that the process received.
@@ -157,30 +116,21 @@ impl Before<'_> {
         }
     }
 
-    // The process has dropped no later message of the sender since it is down.
-    fn after_dropped(&self, p: ProcNo, from: ProcNo, msg: MsgNo) -> Result<(), Breach>
+    /// The process has dropped no later message of the sender since it is down.
+    pub(crate) fn after_dropped(&self, p: ProcNo, from: ProcNo, msg: MsgNo) -> Option<Breach>
         requires before { KnowsBefore self.now }
         ensures { IsJudged self.now.rows.now (λ s. list_all (is_later from msg) (s.dropped_since p)) result }
     {
         let dropped = last_dropped(self.rows, p, from);
         if self.histories.is_up(p) {
-            return Ok(());
+            return None;
         }
-        let Some(last) = dropped else {
-            return Ok(());
-        };
+        let last = dropped?;
         if is_after(msg, Some(last)) {
-            return Ok(());
+            return None;
         }
-        match last_number(self.rows, &Sought::Dropped(last)) {
-            Some(row) => Err(Breach::Message(MessageBreach::DroppedLater {
-                p,
-                from,
-                msg: last,
-                row,
-            })),
-            None => Ok(()),
-        }
+        let row = last_number(self.rows, &Sought::Dropped(last))?;
+        Some(Breach::DroppedLater(p, from, last, row))
     }
 }
 

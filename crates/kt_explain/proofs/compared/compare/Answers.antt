@@ -17,6 +17,6 @@ returns-in-Err c =
     let rows = c.args.log.now.rows in
     let list = c.args.certificates.now in
     let verdict = No (Some c.args.inst) c.args.row c.args.why in
-    let no : IsCertificateNo verdict = record { inst = c.args.inst; row = c.args.row; reason = c.args.why; verdict_is = refl; of_certificate = c.requires.of_certificate } in
+    let no : IsCertificateNo verdict = (c.args.inst, record { row = c.args.row; reason = c.args.why; verdict_is = refl; of_certificate = c.requires.of_certificate }) in
     ok_gives c.without.result (λ (e : Explanation). (l : List Certificate) (v : Verdict) → IsCertificateNo v → IsExplanation rows l v e) (IsExplanation rows list verdict)
     (λ e f. f list verdict no) c.without.ensures

@@ -1,7 +1,7 @@
 use Rattle.std.specs.List.{slice_index}
 use Rattle.kt_cuts.specs.Past.{past}
 use Rattle.kt_checker.specs.Passing.{decided_cut}
-use Rattle.kt_explain.specs.Orphans.{HasParts, IsLeastOrphan, IsOrphanTold}
+use Rattle.kt_explain.specs.Told.{HasParts, IsLeastOrphan, IsOrphanTold}
 use Rattle.kt_explain.proofs.Gives.{some_gives, none_gives}
 use Rattle.kt_explain.proofs.Orphaned.{least_same, same_orphan, told_least}
 use Rattle.kt_explain.proofs.ReceivedRows.{consistent_without}

@@ -6,7 +6,7 @@ use Rattle.kt_cuts.specs.Cuts.{IsConsistent}
 use Rattle.kt_cuts.specs.Legal.{IsLegal}
 use Rattle.kt_cuts.proofs.LegalLogs.{legal_take}
 use Rattle.kt_checker.specs.Passing.{decided_cut}
-use Rattle.kt_explain.specs.Orphans.{IsOrphanTold}
+use Rattle.kt_explain.specs.Told.{IsOrphanTold}
 use Rattle.kt_explain.proofs.orphans.orphan_before.Goals as goal
 
 pub least_orphan-requires-clause-legal : goal.least_orphan-requires-clause-legal

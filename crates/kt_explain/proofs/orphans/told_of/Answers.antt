@@ -38,11 +38,11 @@ returns-in-Some-clause-orphan c =
     let rows = c.args.rows.now in
     let low : c.index-index.result < length rows = omega (arith, c.if-index-rows.false) in
     let there : slice_get rows c.index-index.result ≡ Some (event.Sent c.in-Sent.from c.in-Sent.to c.in-Sent.body) = slice_get-get_or rows c.index-index.result _ low ∙ ap Some c.in-Sent.is in
-    let last : IsLastRow (receives c.in-Sent.to c.in-Sent.from c.args.msg) rows c.in-Some.found.number c.in-Some.found.row = c.in-Some.ensures in
+    let last = c.in-Some.ensures in
     record {
       msg_is = refl;
       message = index_message rows c.args.msg c.index-index.result c.in-Sent.from c.in-Sent.to c.in-Sent.body c.index-index.ensures.value there;
-      received = subst (λ (row : Event). IsLastRow (receives c.in-Sent.to c.in-Sent.from c.args.msg) rows c.in-Some.found.number row) (received_row c.in-Sent.to c.in-Sent.from c.args.msg c.in-Some.found.row last.passes) last;
+      received = subst (λ (row : Event). IsLastRow (receives c.in-Sent.to c.in-Sent.from c.args.msg) rows c.in-Some.received row) (received_row c.in-Sent.to c.in-Sent.from c.args.msg last.0 last.1.passes) last.1;
       undone = c.requires.undone;
       sender = c.is_among.ensures;
       receiver = c.is_among-in-Some.ensures;

@@ -1,7 +1,7 @@
 use Rattle.std.proofs.Common.{◌∙◌, ℕ, ◌+◌, Option, Some, sym, ap, subst, arith}
 use Rattle.std.specs.Prelude.{if◌then◌else◌}
 use Rattle.kt_cuts.specs.Past.{past}
-use Rattle.kt_explain.specs.Breaches.{has_received}
+use Rattle.kt_explain.specs.Demands.{has_received}
 use Rattle.kt_explain.proofs.Delivered.{IsLatestUpTo, latest_first, latest_next, latest_found, none_found}
 use Rattle.kt_explain.proofs.breach.before.Before.latest_received.Goals as goal
 

@@ -1,8 +1,9 @@
 use Rattle.std.proofs.Common.{◌≡◌, ◌∙◌, ℕ, true, Option, length, sym, subst, refl, arith, rules}
 use Rattle.std.specs.Prelude.{IfNone, IfSome}
 use Rattle.kt_cuts.specs.Past.{past}
-use Rattle.kt_explain.specs.Breaches.{IsLatestFrom, has_received}
-use Rattle.kt_explain.specs.Waiting.{Notes}
+use Rattle.kt_explain.specs.Breaches.{IsLatestFrom}
+use Rattle.kt_explain.specs.Demands.{has_received}
+use Rattle.kt_explain.specs.Breaches.{Notes}
 use Rattle.kt_explain.proofs.InTransit.{transit_next, transit_to}
 use Rattle.kt_explain.proofs.breach.before.Before.waiting.Goals as goal
 

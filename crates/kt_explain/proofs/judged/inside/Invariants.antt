@@ -1,0 +1,10 @@
+use Rattle.std.proofs.Common.{List, ℕ}
+use Rattle.kt_cuts.specs.Legal.{is_in}
+use Rattle.kt_spacetime.specs.declared.event.Event.{Event}
+use Rattle.kt_cuts.specs.Past.{past}
+use Rattle.kt_histories.specs.HistoriesOf.{HistoriesOf}
+use Rattle.kt_explain.proofs.FilledSets.{IsFilledTo}
+use Rattle.kt_explain.proofs.judged.inside.Given as goal
+
+abbrev pub invariant-loop-number : goal.invariant-loop-number
+invariant-loop-number l = (rows : List Event) → HistoriesOf l.histories rows → IsFilledTo (λ (p : ℕ). is_in (past rows) p l.inst) l.number l.set

@@ -1,0 +1,47 @@
+use Rattle.std.proofs.Common.{◌≡◌, ◌+◌, ℕ, Bool, true, false, Option, Some, List, take, refl, sym, subst, arith}
+use Rattle.std.specs.Prelude.{◌&&◌, if◌then◌else◌, not, IfSome}
+use Rattle.std.proofs.lemmas.List.{length-take-le}
+use Rattle.std.proofs.lemmas.Option.{slice_get_within}
+use Rattle.kt_spacetime.specs.declared.event.Event.{Event}
+use Rattle.kt_cuts.specs.Legal.{IsLegal}
+use Rattle.kt_cuts.specs.Traces.{trace_of}
+use Rattle.kt_cuts.proofs.Items.{take_item}
+use Rattle.kt_cuts.proofs.LegalLogs.{legal_take}
+use Rattle.kt_cuts.proofs.Replayed.{row_read}
+use Rattle.kt_histories.specs.HistoriesOf.{HistoriesOf}
+use Rattle.kt_explain.specs.Breaches.{IsUndoing, is_send_live}
+use Rattle.kt_explain.proofs.Replaying.{messages_kept}
+use Rattle.kt_explain.proofs.undoing.undoing.Goals as goal
+
+undone_more : (rows : List Event) (msg place : ℕ) (old new : Option ℕ) (was now : Bool) → new ≡ (if was && not now then Some (place + 1) else old)
+    → was ≡ is_send_live (trace_of (take place rows) msg) → now ≡ is_send_live (trace_of (take (place + 1) rows) msg) → IfSome old (IsUndoing rows msg) → IfSome new (IsUndoing rows msg)
+undone_more rows msg place old new true false e w n h =
+    subst (λ (o : Option ℕ). IfSome o (IsUndoing rows msg)) (sym e) (record { place = place; number_is = refl; before = sym w; after = sym n })
+undone_more rows msg place old new true true e w n h = subst (λ (o : Option ℕ). IfSome o (IsUndoing rows msg)) (sym e) h
+undone_more rows msg place old new false now e w n h = subst (λ (o : Option ℕ). IfSome o (IsUndoing rows msg)) (sym e) h
+
+pub add-requires : goal.add-requires
+add-requires c =
+    let rows = c.args.rows.now in
+    let i = c.loop-place.place in
+    let h = c.loop-place.histories in
+    let at = row_read rows i c.index-rows-place.result c.loop-place-test.true c.index-rows-place.is in
+    let low = slice_get_within rows i c.index-rows-place.result at in
+    let kept = messages_kept h (take i rows) c.loop-place.invariant.known in
+    record { few = omega (arith, kept, h.replay.messages.ok.0, length-take-le i rows (omega (arith, low)), low, c.requires.few) }
+
+pub loop-place-preserved : goal.loop-place-preserved
+loop-place-preserved c =
+    let rows = c.args.rows.now in
+    let msg = c.args.msg in
+    let i = c.loop-place.place in
+    let row = c.index-rows-place.result in
+    let at = row_read rows i row c.loop-place-test.true c.index-rows-place.is in
+    let more = take_item rows i (i + 1) row refl at in
+    let legal = subst IsLegal more (legal_take (i + 1) rows c.requires.legal) in
+    let known : HistoriesOf c.add.new.self (take (i + 1) rows) = subst (λ (log : List Event). HistoriesOf c.add.new.self log) (sym more) (c.in_ok-add.ensures (take i rows) c.loop-place.invariant.known legal) in
+    record {
+      known = known;
+      undone = undone_more rows msg i c.loop-place.undone c.undone_after-undone.result c.is_send_live-was.result c.is_send_live-is.result c.undone_after-undone.ensures
+          (c.is_send_live-was.ensures (take i rows) c.loop-place.invariant.known) (c.is_send_live-is.ensures (take (i + 1) rows) known) c.loop-place.invariant.undone;
+    }
