@@ -1,9 +1,9 @@
 -- Outputs that are apart, as far as a list of them was looked through.
-use Rattle.std.proofs.Common.{◌<◌, ◌+◌, ℕ, List, [], length, sym, subst, arith, All, slice_index_or, take}
+use Rattle.std.proofs.Common.{◌<◌, ◌+◌, ℕ, List, length, sym, subst, arith, All, slice_index_or, take}
 use Rattle.std.specs.Prelude.{Some, None}
 use Rattle.std.proofs.lemmas.List.{get_or_default, get_or-take, length-take}
 use borrow.Author.Count.{below_more}
-use Rattle.kt_program.specs.Names.{Apart, AreReadOnce, IsDevice, IsEachApart, Name, ReadOnce}
+use Rattle.kt_program.specs.Names.{Apart, IsDevice, IsEachApart, Name}
 use Rattle.kt_program.specs.Files.{AreTwo, OpenedFile}
 
 pub names_sym : (one other : Name) → Apart one other → Apart other one
@@ -17,12 +17,6 @@ files_sym (Some one) (Some other) two = λ e. two (sym e)
 files_sym (Some one) None two = tt
 files_sym None (Some other) two = tt
 files_sym None None two = tt
-
-pub once_sym : (one other : Name) → ReadOnce one other → ReadOnce other one
-once_sym (Some one) (Some other) once = λ e f. once f e
-once_sym (Some one) None once = tt
-once_sym None (Some other) once = tt
-once_sym None None once = tt
 
 -- the first so many outputs are apart
 pub record IsApartTo {X : Type 0} (Apart : X → X → Type 0) (inputs outputs : List X) (count : ℕ) : Type 0 where
@@ -56,14 +50,3 @@ module _ {X : Type 0} (Apart : X → X → Type 0) (apart_sym : (one other : X) 
       let f = apart_sym (slice_index_or outputs h e) (slice_index_or outputs place e) (are.from_each_other h place e a within) in
       let g = subst (λ (output : X). Apart output (slice_index_or outputs h e)) (get_or_default outputs place e none within) f in
       subst (Apart (slice_index_or outputs place none)) (sym (get_or-take place outputs h e a)) g)
-
--- the same of inputs that are read once
-none_before : (name : Name) → All (ReadOnce name) []
-none_before name = λ k d l. absurd (omega (arith, l))
-
-module _ (inputs : List Name) (place : ℕ) (within : place < length inputs) where
-  pub once_more : IsApartTo ReadOnce [] inputs place → All (ReadOnce (slice_index_or inputs place None)) (take place inputs) → IsApartTo ReadOnce [] inputs (place + 1)
-  once_more before among = apart_more ReadOnce once_sym None [] inputs place within before (none_before (slice_index_or inputs place None)) among
-
-  pub not_once : (¬ All (ReadOnce (slice_index_or inputs place None)) (take place inputs)) → ¬ AreReadOnce inputs
-  not_once named once = not_apart_before ReadOnce once_sym None [] inputs place within named (record { from_inputs = λ k d l. none_before (slice_index_or inputs k d); from_each_other = once })

@@ -19,13 +19,19 @@ use Rattle.kt_plans.specs.Steps.{enabled, is_at_rest, progress_after}
 use Rattle.kt_plans.specs.Told.{rows_along}
 use Rattle.kt_run.specs.Objects.{rules_by}
 use Rattle.kt_run.specs.OneRun.{SavesAll}
-use Rattle.kt_run.specs.Orders.{IsOrderedRun, IsRunBy}
-use Rattle.kt_run.specs.Runs.{IsPlayed, IsRun}
+use Rattle.kt_run.specs.Orders.{IsOneOrderedRun, IsOrderedRun, IsRunBy, kept_steps}
+use Rattle.kt_run.specs.Runs.{IsLogOfRun, IsPlayed, IsRun}
 use Rattle.kt_run.specs.declared.orders.Order.{Order}
+use Rattle.kt_run.specs.declared.recorded.Keep.{Keep}
+use Rattle.kt_run.specs.declared.recorded.Keep.TheVariants.{Log, Steps}
 use Rattle.kt_scenario.specs.Steps.{AreSteps, most_steps}
 use Rattle.kt_scenario.specs.Written.{IsStepOf, steps_text}
 use Rattle.kt_program.specs.Recorded.{AreReadBack, IsKeptRun, IsPlayedAgain}
 use Rattle.kt_program.specs.KeptLives.{IsKeptLive}
+use Rattle.kt_program.specs.Made.{AreListed, IsMadeAs, IsMadeOverNew}
+use Rattle.kt_program.specs.Played.{AreNew}
+use Rattle.kt_program.specs.declared.line.By.{By}
+use Rattle.kt_program.specs.declared.line.By.TheVariants.{Serial, Threads}
 use Rattle.kt_program.proofs.OfOthers.{steps_of_run}
 use Rattle.kt_program.proofs.RunLaws.{RunLaws}
 
@@ -123,3 +129,19 @@ module _ (laws : RunLaws) (plan : Planned) (cast : List (List Content)) (limits 
 
   pub kept_live : (steps : List Step) (rows : List Event) → Reads → IsRunBy plan cast steps rows → IsCertified rows → IsKeptLive plan cast steps rows
   kept_live steps rows reads by certified = record { run = by; certified = certified; again = played_again steps rows by; read = read_back reads steps rows by }
+
+  -- over new objects, whatever is kept
+  module _ (by : By) (order : Order) (keep : Keep) (given listed : List Step) (rows : List Event) (reads : Reads) (new : AreNew plan cast) (certified : IsCertified rows) where
+    pub made_serially : (was : Order) → by ≡ Serial → was ≡ order → IsOneOrderedRun plan cast given was keep listed rows → IsMadeOverNew by order keep plan given listed rows
+    made_serially was e same one =
+        let is : IsKeptRun plan cast given order one.steps rows = subst (λ (o : Order). IsKeptRun plan cast given o one.steps rows) same (kept_run given was one.steps rows reads one.run certified) in
+        (one.steps, (λ k. one.kept ∙ ap (λ (x : Keep). kept_steps x one.steps) k), (cast, new, subst (λ (b : By). IsMadeAs b order plan cast given one.steps rows) (sym e) is))
+
+    steps_lived : (k : Keep) → (k ≡ Steps → IsRunBy plan cast listed rows) → IsLogOfRun plan cast rows → (made : List Step) × AreListed k listed made × IsRunBy plan cast made rows
+    steps_lived Steps run lived = (listed, (λ e. refl), run refl)
+    steps_lived Log run lived = (map (λ (m : Move). m.step) lived.0, (λ e. absurd (cc (e))), record { moves = lived.0; made = refl; run = lived.1 })
+
+    pub made_in_threads : by ≡ Threads → (keep ≡ Steps → IsRunBy plan cast listed rows) → IsLogOfRun plan cast rows → IsMadeOverNew by order keep plan given listed rows
+    made_in_threads e run lived =
+        let made = steps_lived keep run lived in
+        (made.0, made.1, (cast, new, subst (λ (b : By). IsMadeAs b order plan cast given made.0 rows) (sym e) (kept_live made.0 rows reads made.2 certified)))

@@ -17,5 +17,4 @@ pub mod OfOthers
 pub mod KeptRuns
 pub mod OrderedRuns
 pub mod MadeRuns
-pub mod Seeds
 pub mod Lifts

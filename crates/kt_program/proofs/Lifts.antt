@@ -13,7 +13,7 @@ use Rattle.kt_program.specs.declared.line.Drawing.{Drawing}
 use Rattle.kt_program.specs.declared.line.Run.{Run}
 use Rattle.kt_program.specs.Asking.{Ask, DoneFor, EndsFor, IsDraw, IsOfRun, IsOfScenario, IsOfSteps, RefusedFor}
 use Rattle.kt_program.specs.Drawn.{DrawsTo, IsOfDrawing}
-use Rattle.kt_program.specs.Ending.{AppendsRun, DrawnFor, DrawsFor, IsInText, IsOfJudging, IsOfNamedSteps, IsTextAsked, LeavesOutput, LeavesPlayed, PlayedFor, Plays}
+use Rattle.kt_program.specs.Ending.{AppendsRun, DrawnFor, DrawsFor, IsInReport, IsOfJudging, IsOfNamedSteps, LeavesOutput, LeavesPlayed, PlayedFor, Plays}
 use Rattle.kt_program.specs.Names.{IsApart, IsNamed, Name}
 use Rattle.kt_program.specs.Program.{NamesAsked, program as definition}
 use Rattle.kt_program.specs.Stored.{BytesTold}
@@ -42,8 +42,8 @@ module _ (words : List Text) (asked : Asked) (named : NamesAsked (subcommand_of 
 
   -- what it leaves of standard output
   run_left : (old new : BytesTold) (fault : ProgramFault) → IsOfRun asked → (fault ≢ program.App app.Write → fault ≢ program.App app.Memory → new ≡ old) → fault ≢ program.App app.Write
-      → (new ≡ old) ⊎ IsInText words fault
-  run_left old new (program.App app.Memory) run left w = inr (refl, (asked, named, apart, inl run))
+      → (new ≡ old) ⊎ IsInReport words fault
+  run_left old new (program.App app.Memory) run left w = inr (refl, (asked, named, apart, run))
   run_left old new program.Line run left w = inl (left w (λ e. cc (e)))
   run_left old new program.SameFile run left w = inl (left w (λ e. cc (e)))
   run_left old new (program.Scenario fault) run left w = inl (left w (λ e. cc (e)))

@@ -7,6 +7,10 @@ use Rattle.kt_plan.specs.Limits.{Planned}
 use Rattle.kt_plan.specs.declared.steps.Step.{Step}
 use Rattle.kt_run.specs.Faults.{is_of_cast}
 use Rattle.kt_run.specs.Runs.{IsLogOfRun}
+use Rattle.kt_run.specs.Orders.{IsOneRefused}
+use Rattle.kt_run.specs.Refused.{IsStepRefused}
+use Rattle.kt_run.specs.declared.orders.Order.{Order}
+use Rattle.kt_run.specs.declared.orders.Order.TheVariants.{Default, Drawn}
 use Rattle.kt_run.specs.declared.faults.RunFault.{RunFault}
 use Rattle.kt_run.specs.declared.faults.RunFault.TheVariants as run_fault
 use Rattle.kt_spacetime.specs.declared.event.Event.{Event}
@@ -18,12 +22,12 @@ use Rattle.kt_program.specs.declared.fault.AppFault.TheVariants as app
 use Rattle.kt_program.specs.declared.fault.Failure.{Failure}
 use Rattle.kt_program.specs.declared.fault.ProgramFault.{ProgramFault}
 use Rattle.kt_program.specs.declared.fault.ProgramFault.TheVariants as program
+use Rattle.kt_program.specs.declared.line.By.{By}
+use Rattle.kt_program.specs.declared.line.By.TheVariants.{Serial, Threads}
 use Rattle.kt_program.specs.declared.line.Run.{Run}
-use Rattle.kt_program.specs.declared.runs.Way.{Way}
-use Rattle.kt_program.specs.declared.runs.Way.TheVariants.{Played, Ordered, Lived, LivedKept}
 use Rattle.kt_program.specs.Ending.{AppendsReport, AppendsRun, IsNotOfSteps, IsOfNamedSteps, IsOfOutputs, LeavesPlayed}
 use Rattle.kt_program.specs.Inputs.{AreGiven, IsPlanOfFile}
-use Rattle.kt_program.specs.Made.{IsFaultOverNew, IsInThreads, IsMadeAs, IsRefusedAs, way_by}
+use Rattle.kt_program.specs.Made.{IsFaultOverNew, IsMadeAs, IsRefusedIn, order_by}
 use Rattle.kt_program.specs.Names.{Name}
 use Rattle.kt_program.specs.Played.{AreNew, OverNew, of_live, of_run}
 use Rattle.kt_program.specs.Recorded.{IsRecorded, KeptOutputs, StopsRecording}
@@ -31,39 +35,34 @@ use Rattle.kt_program.specs.Stored.{BytesTold}
 use Rattle.kt_program.proofs.OrderedRuns.{report_kept}
 
 -- it is a run of the plan
-log_of_made : (way : Way) (plan : Planned) (cast : List (List Content)) (given made : List Step) (rows : List Event) → IsMadeAs way plan cast given made rows → IsLogOfRun plan cast rows
-log_of_made Played plan cast given made rows is = (is.given ++ is.more, is.run)
-log_of_made (Ordered order) plan cast given made rows is = (is.run.by.moves, is.run.by.run)
-log_of_made Lived plan cast given made rows is = is
-log_of_made LivedKept plan cast given made rows is = (is.run.moves, is.run.run)
+log_of_made : (by : By) (order : Order) (plan : Planned) (cast : List (List Content)) (given made : List Step) (rows : List Event) → IsMadeAs by order plan cast given made rows → IsLogOfRun plan cast rows
+log_of_made Serial order plan cast given made rows is = (is.run.by.moves, is.run.by.run)
+log_of_made Threads order plan cast given made rows is = (is.run.moves, is.run.run)
 
 -- standard output has the report of such a run
-module _ (way : Way) (plan : Planned) (given : List Step) (old new : KeptOutputs) where
-  abbrev New : List Step → List Event → Type 0
-  New made = OverNew plan (λ cast. IsMadeAs way plan cast given made)
-
-  pub report_of_made : IsRecorded New plan old new → AppendsReport old.run.report new.run.report
+module _ (by : By) (order : Order) (plan : Planned) (given : List Step) (old new : KeptOutputs) where
+  pub report_of_made : IsRecorded (λ made. OverNew plan (λ cast. IsMadeAs by order plan cast given made)) plan old new → AppendsReport old.run.report new.run.report
   report_of_made w = record {
     plan = plan;
     rows = w.1.rows;
-    run = (w.1.run.0, w.1.run.1, log_of_made way plan w.1.run.0 given w.0 w.1.rows w.1.run.2);
+    run = (w.1.run.0, w.1.run.1, log_of_made by order plan w.1.run.0 given w.0 w.1.rows w.1.run.2);
     follows = w.1.follows;
     promised = w.1.promised;
     report = w.1.writes.report;
   }
 
-  pub made_of_file : {F : Type 0} (told : F → BytesTold) (asked : Run) → way ≡ way_by asked.by asked.seed asked.kept → IsPlanOfFile told plan → AreGiven told asked.steps plan.names given
-      → IsRecorded New plan old new → AppendsRun told asked old.run.report new.run.report
-  made_of_file told asked e planned begins w = record {
-    plan = plan;
-    planned = planned;
-    given = given;
-    begins = begins;
-    steps = w.0;
-    rows = w.1.rows;
-    made = subst (λ (x : Way). OverNew plan (λ cast. IsMadeAs x plan cast given w.0) w.1.rows) e w.1.run;
-    report = w.1.writes.report;
-  }
+pub made_of_file : {F : Type 0} (told : F → BytesTold) (asked : Run) (plan : Planned) (given : List Step) (old new : KeptOutputs) → IsPlanOfFile told plan → AreGiven told asked.steps plan.names given
+    → IsRecorded (λ made. OverNew plan (λ cast. IsMadeAs asked.by (order_by asked.seed) plan cast given made)) plan old new → AppendsRun told asked old.run.report new.run.report
+made_of_file told asked plan given old new planned begins w = record {
+  plan = plan;
+  planned = planned;
+  given = given;
+  begins = begins;
+  steps = w.0;
+  rows = w.1.rows;
+  made = w.1.run;
+  report = w.1.writes.report;
+}
 
 -- at a fault of such a run standard output has nothing new, unless the writer failed or there was no memory
 pub left_of_made : (Are : List Step → List Event → Type 0) (plan : Planned) (old new : KeptOutputs) (failure : Failure) (fault : AppFault) → failure.fault ≡ program.App fault
@@ -89,10 +88,10 @@ pub scenario_named : (name : Name) (fault : ProgramFault) → IsNotOfSteps fault
 scenario_named name fault h = not_of_steps name fault h
 
 -- what a run meets over new objects, as the program answers it
-module _ (way : Way) (plan : Planned) (given : List Step) where
-  pub serial_fault : (fault : RunFault) → ¬ IsInThreads way → is_of_cast fault ≡ false → ((p : ℕ) → fault ≢ run_fault.Object p) → ((p : ℕ) → fault ≢ run_fault.Journal p)
-      → ((done : ℕ) (why : StepFault) → fault ≡ run_fault.Step done why → (cast : List (List Content)) × AreNew plan cast × IsRefusedAs way plan cast given done why)
-      → IsFaultOverNew way plan given (of_run fault)
+module _ (by : By) (order : Order) (plan : Planned) (given : List Step) where
+  pub serial_fault : (fault : RunFault) → by ≡ Serial → is_of_cast fault ≡ false → ((p : ℕ) → fault ≢ run_fault.Object p) → ((p : ℕ) → fault ≢ run_fault.Journal p)
+      → ((done : ℕ) (why : StepFault) → fault ≡ run_fault.Step done why → (cast : List (List Content)) × AreNew plan cast × IsRefusedIn order plan cast given done why)
+      → IsFaultOverNew by order plan given (of_run fault)
   serial_fault run_fault.Memory serial right objects untold refused = tt
   serial_fault run_fault.CastSize serial right objects untold refused = record { serial = serial; found = λ e. cc (e); right = right; objects = objects; untold = untold; refused = refused }
   serial_fault (run_fault.CastKind p) serial right objects untold refused = record { serial = serial; found = λ e. cc (e); right = right; objects = objects; untold = untold; refused = refused }
@@ -100,7 +99,7 @@ module _ (way : Way) (plan : Planned) (given : List Step) where
   serial_fault (run_fault.Journal p) serial right objects untold refused = absurd (untold p refl)
   serial_fault (run_fault.Step done why) serial right objects untold refused = record { serial = serial; found = λ e. cc (e); right = right; objects = objects; untold = untold; refused = refused }
 
-  pub threads_fault : (fault : LiveFault) → IsInThreads way → is_live_of_cast fault ≡ false → ((p : ℕ) → fault ≢ live_fault.Object p) → IsFaultOverNew way plan given (of_live fault)
+  pub threads_fault : (fault : LiveFault) → by ≡ Threads → is_live_of_cast fault ≡ false → ((p : ℕ) → fault ≢ live_fault.Object p) → IsFaultOverNew by order plan given (of_live fault)
   threads_fault live_fault.Memory threads right objects = tt
   threads_fault live_fault.CastSize threads right objects = record { threads = threads; found = λ e. cc (e); right = right; objects = objects }
   threads_fault (live_fault.CastKind p) threads right objects = record { threads = threads; found = λ e. cc (e); right = right; objects = objects }
@@ -111,32 +110,25 @@ module _ (way : Way) (plan : Planned) (given : List Step) where
   threads_fault live_fault.Differ threads right objects = record { threads = threads; found = λ e. cc (e); right = right; objects = objects }
 
 -- such a fault stops a run before anything is written
-pub stops_over_new : (way : Way) (Are : List Step → List Event → Type 0) (plan : Planned) (given : List Step) (told : KeptOutputs) (fault : AppFault) → IsFaultOverNew way plan given fault → StopsRecording Are plan told told fault
-stops_over_new way Are plan given told (app.Run fault) h = (h.found, refl)
-stops_over_new way Are plan given told (app.Live fault) h = (h.found, refl)
-stops_over_new way Are plan given told app.Memory h = inl refl
-stops_over_new way Are plan given told app.Write h = absurd h
-stops_over_new way Are plan given told app.RecordTooLong h = absurd h
-stops_over_new way Are plan given told (app.Uncertified fault) h = absurd h
-stops_over_new way Are plan given told (app.Unfit why) h = absurd h
-stops_over_new way Are plan given told (app.Picture why) h = absurd h
-stops_over_new way Are plan given told (app.Log fault) h = absurd h
-stops_over_new way Are plan given told (app.Cert fault) h = absurd h
-
--- a run over objects that are new
-pub made_anew : (way was : Way) (plan : Planned) (cast : List (List Content)) (given made : List Step) (rows all : List Event) → way ≡ was → AreNew plan cast → all ≡ rows → IsMadeAs was plan cast given made rows
-    → OverNew plan (λ c. IsMadeAs way plan c given made) all
-made_anew way was plan cast given made rows all e new same is =
-    (cast, new, subst (λ (l : List Event). IsMadeAs way plan cast given made l) (sym same) (subst (λ (w : Way). IsMadeAs w plan cast given made rows) (sym e) is))
+pub stops_over_new : (by : By) (order : Order) (Are : List Step → List Event → Type 0) (plan : Planned) (given : List Step) (told : KeptOutputs) (fault : AppFault) → IsFaultOverNew by order plan given fault → StopsRecording Are plan told told fault
+stops_over_new by order Are plan given told (app.Run fault) h = (h.found, refl)
+stops_over_new by order Are plan given told (app.Live fault) h = (h.found, refl)
+stops_over_new by order Are plan given told app.Memory h = inl refl
+stops_over_new by order Are plan given told app.Write h = absurd h
+stops_over_new by order Are plan given told app.RecordTooLong h = absurd h
+stops_over_new by order Are plan given told (app.Uncertified fault) h = absurd h
+stops_over_new by order Are plan given told (app.Unfit why) h = absurd h
+stops_over_new by order Are plan given told (app.Picture why) h = absurd h
+stops_over_new by order Are plan given told (app.Log fault) h = absurd h
+stops_over_new by order Are plan given told (app.Cert fault) h = absurd h
 
 -- a step that is refused over objects that are new
-pub refused_anew : (way was : Way) (plan : Planned) (cast : List (List Content)) (given : List Step) (done : ℕ) (why : StepFault) → way ≡ was → AreNew plan cast → IsRefusedAs was plan cast given done why
-    → (c : List (List Content)) × AreNew plan c × IsRefusedAs way plan c given done why
-refused_anew way was plan cast given done why e new is = (cast, new, subst (λ (w : Way). IsRefusedAs w plan cast given done why) (sym e) is)
+pub refused_anew : (order was : Order) (plan : Planned) (cast : List (List Content)) (given : List Step) (done : ℕ) (why : StepFault) → was ≡ order → AreNew plan cast → IsRefusedIn was plan cast given done why
+    → (c : List (List Content)) × AreNew plan c × IsRefusedIn order plan c given done why
+refused_anew order was plan cast given done why e new is = (cast, new, subst (λ (o : Order). IsRefusedIn o plan cast given done why) e is)
 
--- whether a run that is made so is one of threads
-pub in_threads_as : (way was : Way) → way ≡ was → IsInThreads was → IsInThreads way
-in_threads_as way was e h = subst IsInThreads (sym e) h
-
-pub serial_as : (way was : Way) → way ≡ was → ¬ IsInThreads was → ¬ IsInThreads way
-serial_as way was e h = subst (λ (w : Way). ¬ IsInThreads w) (sym e) h
+-- by default it is refused after the steps given, else after those of some run
+pub refused_in : (order : Order) (plan : Planned) (cast : List (List Content)) (given : List Step) (done : ℕ) (why : StepFault) → (order ≡ Default → IsStepRefused plan cast given done why) → IsOneRefused plan cast done why
+    → IsRefusedIn order plan cast given done why
+refused_in Default plan cast given done why given_refused one = given_refused refl
+refused_in (Drawn seed) plan cast given done why given_refused one = one

@@ -10,6 +10,8 @@ use Rattle.kt_text.specs.Writing.{WritesFront}
 use Rattle.kt_plan.specs.Limits.{Planned}
 use Rattle.kt_plan.specs.declared.steps.Step.{Step}
 use Rattle.kt_spacetime.specs.declared.event.Event.{Event}
+use Rattle.kt_run.specs.declared.recorded.Keep.{Keep}
+use Rattle.kt_program.specs.Made.{AreListed}
 use Rattle.kt_program.specs.Played.{IsOfWriting, WritesRun, outputs}
 use Rattle.kt_program.specs.Recorded.{IsOfRecording, IsRecorded, KeptOutputs, OfSome, StopsRecording, WritesLog, WritesSteps, kept_outputs}
 use Rattle.kt_program.specs.Stored.{BytesTold}
@@ -55,14 +57,13 @@ report_kept Are plan old new (app.Picture why) s w m = absurd s
 report_kept Are plan old new (app.Log fault) s w m = absurd s
 report_kept Are plan old new (app.Cert fault) s w m = absurd s
 
--- what follows of two facts of an answer
-pub if_ok_both : {T E : Type 0} (r : Result T E) (P Q R : T → Type 0) → ((value : T) → P value → Q value → R value) → IfOk r P → IfOk r Q → IfOk r R
-if_ok_both (Ok value) P Q R f p q = f value p q
-if_ok_both (Err fault) P Q R f p q = tt
+-- what is listed, where the same is kept and the same is listed
+pub listed_so : (keep was : Keep) (listed items made : List Step) → keep ≡ was → listed ≡ items → AreListed keep items made → AreListed was listed made
+listed_so keep was listed items made k l h = λ e. l ∙ h (k ∙ e)
 
 -- as many steps as can be read are written
 pub writes_steps : (plan : Planned) (steps : List Step) (old new : BytesTold) → Appends old new (steps_text plan.names steps) → length steps ≤ most_steps → WritesSteps plan steps old new
-writes_steps plan steps old new text few = record { text = text; few = go new }
+writes_steps plan steps old new text few = record { text = text; few = go old }
   where
     go : (o : BytesTold) → IfSome o (λ _. length steps ≤ most_steps)
     go None = tt

@@ -15,9 +15,10 @@ use Rattle.kt_program.specs.declared.fault.AppFault.{AppFault}
 use Rattle.kt_program.specs.declared.fault.AppFault.TheVariants as app
 use Rattle.kt_program.specs.declared.fault.ProgramFault.{ProgramFault}
 use Rattle.kt_program.specs.declared.fault.ProgramFault.TheVariants as program
-use Rattle.kt_program.specs.Drawn.{Draws, DrawsCertified, IsCertifiedPictureOf, IsOfDrawing, IsOfNames, IsPictureOfFile, IsPictureWith, IsSomePicture, IsUndrawn, IsUndrawnRun, LeavesPicture, TextGoesTo, of_draw}
+use Rattle.kt_program.specs.Drawn.{AreNamesOf, IsOfDrawing, IsOfNames, IsPictureOfFile, IsPictureWith, IsSomePicture, IsUndrawn, IsUndrawnRun, LeavesPicture, of_draw}
 use Rattle.kt_program.specs.Explained.{Say}
 use Rattle.kt_program.specs.Names.{Name}
+use Rattle.kt_program.specs.Outputs.{TextGoesTo}
 use Rattle.kt_program.specs.Stored.{IsRefusal, BytesTold}
 
 -- a fault of the bytes is one of the program
@@ -33,12 +34,6 @@ of_fault span bytes (draw.Picture why) h = h
 
 pub undrawn : (span : Span) (bytes : BytesTold) (fault : DrawFault) (answer : AppFault) → answer ≡ of_draw fault → IsNoPictureOf span bytes fault → IsUndrawn span bytes answer
 undrawn span bytes fault answer e h = subst (IsUndrawn span bytes) (sym e) (of_fault span bytes fault h)
-
--- a picture is written
-pub drawn : (names : List (List ℕ)) (span : Span) (bytes old new : BytesTold) (text : List ℕ) (result : Result Unit AppFault) → IsPictureOf names span bytes text
-    → OnOk result (Appends old new text) → OnOk result (Draws names span bytes old new)
-drawn names span bytes old new text (Ok u) picture written = (text, picture, written)
-drawn names span bytes old new text (Err fault) picture written = tt
 
 -- a fault of names is one of a picture
 pub of_names : (name : Name) (fault : ProgramFault) → IsOfNames name fault → IsOfDrawing name fault
@@ -71,11 +66,15 @@ pub undrawn_run : (span : Span) (log cert : BytesTold) (read : List Event) (cert
     → IsUndrawnRun span log cert answer
 undrawn_run span log cert read certificates fault answer e said h = subst (IsUndrawnRun span log cert) (sym e) (of_run_fault span log cert read fault said.rows_said h)
 
--- a picture with certificates is written
-pub drawn_certified : (names : List (List ℕ)) (span : Span) (log cert old new : BytesTold) (text : List ℕ) (result : Result Unit AppFault) → IsCertifiedPictureOf names span log cert text
-    → OnOk result (Appends old new text) → OnOk result (DrawsCertified names span log cert old new)
-drawn_certified names span log cert old new text (Ok u) picture written = (text, picture, written)
-drawn_certified names span log cert old new text (Err fault) picture written = tt
+-- a text is the picture of the log in a file, where the one that it is the same as is
+pub of_file : {F : Type 0} (told : F → BytesTold) (scenario cert : Name) (span : Span) (text was : List ℕ) (names : List (List ℕ)) (file : F) → text ≡ was → AreNamesOf told scenario names → IsPictureWith told cert names span (told file) was
+    → IsPictureOfFile told scenario cert span text
+of_file told scenario cert span text was names file same named picture = record {
+  names = names;
+  named = named;
+  file = file;
+  picture = subst (λ (t : List ℕ). IsPictureWith told cert names span (told file) t) (sym same) picture;
+}
 
 -- a picture of a stored log is one of some log
 some_picture : {F : Type 0} (told : F → BytesTold) (cert : Name) (names : List (List ℕ)) (span : Span) (log : BytesTold) (text : List ℕ) → IsPictureWith told cert names span log text → IsSomePicture text

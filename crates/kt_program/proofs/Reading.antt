@@ -1,16 +1,14 @@
 -- What is read of a text, and what is made of it.
-use Rattle.std.proofs.Common.{◌≡◌, ◌<◌, ◌∙◌, ℕ, List, ◌++◌, Some, None, length, refl, sym, ap, subst, arith, inl, inr, append-nil, length-append}
-use Rattle.std.specs.Prelude.{IfSome, ◌≢◌}
+use Rattle.std.proofs.Common.{◌≡◌, ◌<◌, ◌∙◌, ℕ, List, ◌++◌, Some, None, length, sym, ap, subst, arith, inl, inr, append-nil, length-append}
+use Rattle.std.specs.Prelude.{IfSome}
 use Rattle.std.specs.Io.KnownBytes.{Consumes, IsAtEnd}
 use Rattle.kt_plan.specs.declared.steps.Step.{Step}
 use Rattle.kt_plan.specs.Limits.{Planned}
 use Rattle.kt_scenario.specs.Scenario.{IsScenario, IsFirstScenarioFault, most_bytes}
 use Rattle.kt_scenario.specs.Steps.{AreSteps, IsFirstStepFault, most_step_bytes}
 use Rattle.kt_scenario.specs.declared.fault.ScenarioFault.{ScenarioFault}
-use Rattle.kt_scenario.specs.declared.fault.ScenarioFault.TheVariants as scenario
 use Rattle.kt_scenario.specs.declared.fault.StepsFault.{StepsFault}
-use Rattle.kt_scenario.specs.declared.fault.StepsFault.TheVariants as steps
-use Rattle.kt_program.specs.Inputs.{AreStepsOf, IsRead, IsScenarioOf, IsScenarioRefusal, IsStepsRefusal, of_scenario, of_steps}
+use Rattle.kt_program.specs.Inputs.{AreStepsOf, IsRead, IsScenarioOf}
 use Rattle.kt_program.specs.Stored.{BytesTold}
 
 -- a text that was read to its end
@@ -60,30 +58,3 @@ pub step_fault_of_whole : (told : BytesTold) (names : List (List ℕ)) (text : L
 step_fault_of_whole None names text fault read is = tt
 step_fault_of_whole (Some whole) names text fault (inl e) is = subst (λ (t : List ℕ). IsFirstStepFault names t fault) e is
 step_fault_of_whole (Some whole) names text fault (inr (l, rest, e)) is = step_fault_in_whole names text rest whole fault l e is
-
--- why a scenario is refused, as the program answers it
-pub scenario_refused : (told : BytesTold) (text : List ℕ) (fault : ScenarioFault) → IsRead most_bytes told text → (fault ≢ scenario.Memory → IsFirstScenarioFault text fault)
-    → IsScenarioRefusal told (of_scenario fault)
-scenario_refused told text scenario.TooLong read is = (λ e. cc e, fault_of_whole told text scenario.TooLong read (is (λ e. cc e)))
-scenario_refused told text (scenario.Command n) read is = (λ e. cc e, fault_of_whole told text (scenario.Command n) read (is (λ e. cc e)))
-scenario_refused told text (scenario.Words n) read is = (λ e. cc e, fault_of_whole told text (scenario.Words n) read (is (λ e. cc e)))
-scenario_refused told text (scenario.Name n) read is = (λ e. cc e, fault_of_whole told text (scenario.Name n) read (is (λ e. cc e)))
-scenario_refused told text (scenario.Twice n) read is = (λ e. cc e, fault_of_whole told text (scenario.Twice n) read (is (λ e. cc e)))
-scenario_refused told text (scenario.KindWord n) read is = (λ e. cc e, fault_of_whole told text (scenario.KindWord n) read (is (λ e. cc e)))
-scenario_refused told text (scenario.TooManyObjects n) read is = (λ e. cc e, fault_of_whole told text (scenario.TooManyObjects n) read (is (λ e. cc e)))
-scenario_refused told text (scenario.Unknown n) read is = (λ e. cc e, fault_of_whole told text (scenario.Unknown n) read (is (λ e. cc e)))
-scenario_refused told text (scenario.Itself n) read is = (λ e. cc e, fault_of_whole told text (scenario.Itself n) read (is (λ e. cc e)))
-scenario_refused told text (scenario.Number n) read is = (λ e. cc e, fault_of_whole told text (scenario.Number n) read (is (λ e. cc e)))
-scenario_refused told text (scenario.TooManyCommands n) read is = (λ e. cc e, fault_of_whole told text (scenario.TooManyCommands n) read (is (λ e. cc e)))
-scenario_refused told text scenario.Memory read is = refl
-
--- why steps are refused, as the program answers it
-pub steps_refused : (told : BytesTold) (names : List (List ℕ)) (text : List ℕ) (fault : StepsFault) → IsRead most_step_bytes told text
-    → (fault ≢ steps.Memory → IsFirstStepFault names text fault) → IsStepsRefusal told names (of_steps fault)
-steps_refused told names text steps.TooLong read is = (λ e. cc e, step_fault_of_whole told names text steps.TooLong read (is (λ e. cc e)))
-steps_refused told names text (steps.Command n) read is = (λ e. cc e, step_fault_of_whole told names text (steps.Command n) read (is (λ e. cc e)))
-steps_refused told names text (steps.Words n) read is = (λ e. cc e, step_fault_of_whole told names text (steps.Words n) read (is (λ e. cc e)))
-steps_refused told names text (steps.Unknown n) read is = (λ e. cc e, step_fault_of_whole told names text (steps.Unknown n) read (is (λ e. cc e)))
-steps_refused told names text (steps.Itself n) read is = (λ e. cc e, step_fault_of_whole told names text (steps.Itself n) read (is (λ e. cc e)))
-steps_refused told names text (steps.TooMany n) read is = (λ e. cc e, step_fault_of_whole told names text (steps.TooMany n) read (is (λ e. cc e)))
-steps_refused told names text steps.Memory read is = refl

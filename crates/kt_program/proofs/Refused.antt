@@ -1,17 +1,13 @@
 -- Words that are refused for the names that they give.
 use Rattle.std.proofs.Common.{◌≡◌, List, inl, refl, subst, sym, true}
-use Rattle.std.specs.Prelude.{Result, Ok, Err, IfErr}
+use Rattle.std.specs.Prelude.{Result, Err}
 use Rattle.clap.specs.Words.{App, Text, app_of, fault_of, subcommand_of, subcommand_rows_of}
 use Rattle.clap.specs.Simple.{HasMatchesOf, is_simple}
 use Rattle.clap.specs.Faults.{is_simple_and_free}
 use Rattle.clap.specs.Kinds.{FailsBy}
 use Rattle.clap.specs.declared.builder.command.Command.{Command}
 use Rattle.clap.specs.declared.error.Error.{Error}
-use Rattle.kt_program.specs.declared.ask.AskFault.{AskFault}
-use Rattle.kt_program.specs.declared.ask.AskFault.TheVariants as ask
 use Rattle.kt_program.specs.declared.line.Asked.{Asked}
-use Rattle.kt_program.specs.Asking.{IsOfName, IsUnasked}
-use Rattle.kt_program.specs.Names.{IsApart}
 use Rattle.kt_program.specs.Program.{IsDefined, IsErrorFor, NamesAsked, program}
 
 -- the program's command line is one of which clap says what it makes of words
@@ -40,10 +36,3 @@ pub error_of : {T : Type 0} (command : Command) (words texts : List Text) (resul
 error_of {T} command words texts result e defined same is fails =
     let here = subst (λ (app : App). is_simple_and_free app ≡ true → FailsBy (fault_of app texts) result) defined.shape fails in
     inl (subst (λ (list : List Text). FailsBy {T = T} (fault_of program list) (Err e)) same (subst (λ r. FailsBy {T = T} (fault_of program texts) r) is (here simple_and_free)))
-
-pub unasked : (words : List Text) (asked : Asked) (result : Result Asked AskFault) → NamesAsked (subcommand_of program words) asked → IfErr result IsOfName
-    → IfErr result (λ fault. ¬ IsApart asked) → IfErr result (IsUnasked words)
-unasked words asked (Ok given) named is twice = tt
-unasked words asked (Err (ask.SameName name)) named is twice = (asked, named, twice)
-unasked words asked (Err (ask.Line e)) named is twice = absurd is
-unasked words asked (Err ask.Memory) named is twice = absurd is

@@ -1,7 +1,7 @@
 -- What becomes of a stored log that is certified.
-use Rattle.std.proofs.Common.{◌≡◌, ◌≢◌, List, Some, None, sym, subst, inl, inr}
-use Rattle.std.specs.Prelude.{Result, Ok, Err, OnOk, IfErr}
+use Rattle.std.proofs.Common.{◌≡◌, ◌≢◌, ℕ, List, Some, None, sym, subst, inl, inr}
 use Rattle.std.specs.Io.KnownBytes.{Appends}
+use Rattle.std.specs.Prelude.{Result, Ok, Err, OnOk, IfErr}
 use Rattle.kt_log_text.specs.declared.fault.LogFault.TheVariants.{Read, TooLong, Version, Fields, Word, Number, Memory}
 use Rattle.kt_chain.specs.declared.certificate.Certificate.{Certificate}
 use Rattle.kt_certify.specs.Streamed.{IsFaultOfBytes}
@@ -9,10 +9,11 @@ use Rattle.kt_certify.specs.declared.fault.StreamFault.{StreamFault}
 use Rattle.kt_certify.specs.declared.fault.StreamFault.TheVariants.{Log, Unfit}
 use Rattle.kt_program.specs.declared.fault.AppFault.{AppFault}
 use Rattle.kt_program.specs.declared.fault.AppFault.TheVariants as app
+use Rattle.kt_program.specs.Certified.{CertifiesTo, IsTextOfCertificates, IsUncertified, LeavesCertificates, LeavesCertified, of_stream, text_of_list}
 use Rattle.kt_program.specs.declared.fault.Failure.{Failure}
 use Rattle.kt_program.specs.declared.fault.ProgramFault.TheVariants as program
-use Rattle.kt_program.specs.Certified.{AreOfFile, CertifiesTo, GoTo, IsUncertified, LeavesCertificates, LeavesCertified, of_stream, text_of_list}
 use Rattle.kt_program.specs.Names.{Name}
+use Rattle.kt_program.specs.Outputs.{TextGoesTo}
 use Rattle.kt_program.specs.Stored.{BytesTold}
 
 -- a fault of the stream is one of the program
@@ -29,17 +30,18 @@ of_fault bytes (Unfit why) h = h
 pub uncertified : (bytes : BytesTold) (fault : StreamFault) (answer : AppFault) → answer ≡ of_stream fault → IsFaultOfBytes bytes fault → IsUncertified bytes answer
 uncertified bytes fault answer e h = subst (IsUncertified bytes) (sym e) (of_fault bytes fault h)
 
-module _ {F : Type 0} (told : F → BytesTold) (name : Name) (list : List Certificate) (old new : BytesTold) (file : AreOfFile told list) where
+module _ {F : Type 0} (told : F → BytesTold) (name : Name) (text : List ℕ) (old new : BytesTold) (file : F) (is : IsTextOfCertificates (told file) text) where
   -- what is left on standard output
-  leaves : GoTo name list old new → LeavesCertificates old new
-  leaves (inl goes) = inr (file.1.rows, file.1.fit, subst (λ (l : List Certificate). Appends old new (text_of_list l)) file.1.certificates goes.1)
-  leaves (inr kept) = inl kept.1
+  leaves_certificates : TextGoesTo name text old new → LeavesCertificates old new
+  leaves_certificates (inl goes) =
+      let list = is.1 in
+      inr (list.rows, list.fit, subst (λ (l : List Certificate). Appends old new (text_of_list l)) list.certificates (subst (λ (t : List ℕ). Appends old new t) is.2 goes.1))
+  leaves_certificates (inr kept) = inl kept.1
 
-  pub left : (result : Result Unit Failure) → OnOk result (GoTo name list old new)
-      → IfErr result (λ failure. failure.fault ≢ program.App app.Write → failure.fault ≢ program.App app.Memory → new ≡ old) → LeavesCertified result old new
-  left (Ok u) goes kept = leaves goes
+  pub left : (result : Result Unit Failure) → OnOk result (TextGoesTo name text old new) → IfErr result (λ failure. failure.fault ≢ program.App app.Write → new ≡ old) → LeavesCertified result old new
+  left (Ok u) goes kept = leaves_certificates goes
   left (Err fault) goes kept = kept
 
-  pub certified_to : (result : Result Unit Failure) → OnOk result (GoTo name list old new) → OnOk result (CertifiesTo told name old new)
-  certified_to (Ok u) goes = (list, file, goes)
+  pub certified_to : (result : Result Unit Failure) → OnOk result (TextGoesTo name text old new) → OnOk result (CertifiesTo told name old new)
+  certified_to (Ok u) goes = (file, text, is, goes)
   certified_to (Err fault) goes = tt

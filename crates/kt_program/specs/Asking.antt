@@ -26,12 +26,6 @@ IsUnasked words (ask.Line e) = IsErrorFor words e
 IsUnasked words (ask.SameName name) = NameTwice words
 IsUnasked words ask.Memory = Unit {0}
 
--- a name is given twice
-abbrev pub IsOfName : AskFault → Type 0
-IsOfName (ask.SameName name) = Unit {0}
-IsOfName (ask.Line e) = ⊥
-IsOfName ask.Memory = ⊥
-
 -- clap answers a request for help or for the version by such an error
 abbrev pub IsRequest : ErrorKind → Type 0
 IsRequest kind = (kind ≡ DisplayHelp) ⊎ (kind ≡ DisplayVersion)

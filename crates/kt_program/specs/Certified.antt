@@ -17,20 +17,25 @@ use Rattle.kt_program.specs.declared.fault.AppFault.TheVariants as app
 use Rattle.kt_program.specs.declared.fault.Failure.{Failure}
 use Rattle.kt_program.specs.declared.fault.ProgramFault.{ProgramFault}
 use Rattle.kt_program.specs.declared.fault.ProgramFault.TheVariants as program
-use Rattle.kt_program.specs.Names.{IsStandard, Name}
+use Rattle.kt_program.specs.Names.{Name}
+use Rattle.kt_program.specs.Outputs.{TextGoesTo}
 use Rattle.kt_program.specs.Stored.{BytesTold, records_told}
 
 -- the text of these certificates
 abbrev pub text_of_list : List Certificate → List ℕ
 text_of_list list = text_of (records_of list)
 
--- the certificates of the rows that the bytes say are written
-abbrev pub WritesCertificates : BytesTold → BytesTold → BytesTold → Type 0
-WritesCertificates bytes old new = (list : List Certificate) × AreCertified bytes list × Appends old new (text_of_list list)
+-- a text is that of the certificates of the rows that the bytes say
+abbrev pub IsTextOfCertificates : BytesTold → List ℕ → Type 0
+IsTextOfCertificates bytes text = (list : List Certificate) × AreCertified bytes list × (text ≡ text_of_list list)
 
--- writing them stops: a front part of their text is written
+-- it is written
+abbrev pub WritesCertificates : BytesTold → BytesTold → BytesTold → Type 0
+WritesCertificates bytes old new = (text : List ℕ) × IsTextOfCertificates bytes text × Appends old new text
+
+-- writing it stops: a front part of it is written
 abbrev pub StopsInCertificates : BytesTold → BytesTold → BytesTold → Type 0
-StopsInCertificates bytes old new = (list : List Certificate) × AreCertified bytes list × WritesFront old new (text_of_list list)
+StopsInCertificates bytes old new = (text : List ℕ) × IsTextOfCertificates bytes text × WritesFront old new text
 
 -- why a stored log has no certificates: its first fault, or why its rows are not fit; nothing is said of want of memory
 abbrev pub IsUncertified : BytesTold → AppFault → Type 0
@@ -45,36 +50,24 @@ IsUncertified bytes (app.Live fault) = ⊥
 IsUncertified bytes (app.Uncertified fault) = ⊥
 IsUncertified bytes (app.Picture why) = ⊥
 
--- it has none and nothing is written, or writing them stops
-abbrev pub IsNotWritten : BytesTold → BytesTold → BytesTold → AppFault → Type 0
-IsNotWritten bytes old new fault = (IsUncertified bytes fault × (new ≡ old)) ⊎ (((fault ≡ app.Write) ⊎ (fault ≡ app.Memory)) × StopsInCertificates bytes old new)
-
 -- a fault of a stored log, as the program answers it
 abbrev pub of_stream : StreamFault → AppFault
 of_stream (stream.Log log.Memory) = app.Memory
 of_stream (stream.Log fault) = app.Log fault
 of_stream (stream.Unfit why) = app.Unfit why
 
--- these certificates go to standard output where no file is named for them
-abbrev pub GoTo : Name → List Certificate → BytesTold → BytesTold → Type 0
-GoTo name list old new = (IsStandard name × Appends old new (text_of_list list)) ⊎ ((¬ IsStandard name) × (new ≡ old))
-
--- these are the certificates of the rows that a file says
-abbrev pub AreOfFile : {F : Type 0} → (F → BytesTold) → List Certificate → Type 0
-AreOfFile {F} told list = (file : F) × AreCertified (told file) list
-
--- such certificates go where they are asked for
+-- the text of the certificates of the rows that a file says goes where it is asked for
 abbrev pub CertifiesTo : {F : Type 0} → (F → BytesTold) → Name → BytesTold → BytesTold → Type 0
-CertifiesTo told name old new = (list : List Certificate) × AreOfFile told list × GoTo name list old new
+CertifiesTo {F} told name old new = (file : F) × (text : List ℕ) × IsTextOfCertificates (told file) text × TextGoesTo name text old new
 
 -- standard output has the certificates of rows that are fit, or nothing new where they go into a file
 abbrev pub LeavesCertificates : BytesTold → BytesTold → Type 0
 LeavesCertificates old new = (new ≡ old) ⊎ ((read : List Event) × IsFitLog read × Appends old new (text_of_list (certificates read)))
 
--- the same; at a fault nothing new, unless the writer failed or there was no memory for more of the certificates
+-- the same; at a fault nothing new, unless the writer failed
 abbrev pub LeavesCertified : Result Unit Failure → BytesTold → BytesTold → Type 0
 LeavesCertified (Ok u) old new = LeavesCertificates old new
-LeavesCertified (Err failure) old new = failure.fault ≢ program.App app.Write → failure.fault ≢ program.App app.Memory → new ≡ old
+LeavesCertified (Err failure) old new = failure.fault ≢ program.App app.Write → new ≡ old
 
 -- a fault of certifying: none of the words, nor of a scenario or steps
 abbrev pub IsOfCertifying : ProgramFault → Type 0

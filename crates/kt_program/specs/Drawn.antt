@@ -20,12 +20,9 @@ use Rattle.kt_program.specs.declared.fault.ProgramFault.TheVariants as program
 use Rattle.kt_program.specs.declared.line.Drawing.{Drawing}
 use Rattle.kt_program.specs.Explained.{Say}
 use Rattle.kt_program.specs.Inputs.{IsPlanOfFile}
-use Rattle.kt_program.specs.Names.{IsNamed, IsStandard, Name}
+use Rattle.kt_program.specs.Names.{IsNamed, Name}
+use Rattle.kt_program.specs.Outputs.{TextGoesTo}
 use Rattle.kt_program.specs.Stored.{IsRefusal, BytesTold, records_told}
-
--- it is written
-abbrev pub Draws : List (List ℕ) → Span → BytesTold → BytesTold → BytesTold → Type 0
-Draws names span bytes old new = (text : List ℕ) × IsPictureOf names span bytes text × Appends old new text
 
 -- why a stored log is not drawn: its first fault, or why it has no such picture; nothing is said of want of memory
 abbrev pub IsUndrawn : Span → BytesTold → AppFault → Type 0
@@ -51,10 +48,6 @@ abbrev pub IsCertifiedPictureOf : List (List ℕ) → Span → BytesTold → Byt
 IsCertifiedPictureOf names span log cert text =
     (read : List Event) × (certificates : List Certificate) × Say log cert read certificates × IsCertifiedPicture names span read certificates text
 
--- it is written
-abbrev pub DrawsCertified : List (List ℕ) → Span → BytesTold → BytesTold → BytesTold → BytesTold → Type 0
-DrawsCertified names span log cert old new = (text : List ℕ) × IsCertifiedPictureOf names span log cert text × Appends old new text
-
 -- why a stored log is not drawn with its certificates: its first fault, or that of the certificates of a log that was read, or
 -- why the log has no such picture; nothing is said of want of memory
 abbrev pub IsUndrawnRun : Span → BytesTold → BytesTold → AppFault → Type 0
@@ -73,10 +66,6 @@ IsUndrawnRun span log cert app.RecordTooLong = ⊥
 abbrev pub AreNamesOf : {F : Type 0} → (F → BytesTold) → Name → List (List ℕ) → Type 0
 AreNamesOf told None names = names ≡ []
 AreNamesOf told (Some name) names = (plan : Planned) × IsPlanOfFile told plan × (names ≡ plan.names)
-
--- a text goes to standard output where no file is named for it
-abbrev pub TextGoesTo : Name → List ℕ → BytesTold → BytesTold → Type 0
-TextGoesTo name text old new = (IsStandard name × Appends old new text) ⊎ ((¬ IsStandard name) × (new ≡ old))
 
 -- a text is a picture of the log that bytes say, with the certificates that a file says, where one is named
 abbrev pub IsPictureWith : {F : Type 0} → (F → BytesTold) → Name → List (List ℕ) → Span → BytesTold → List ℕ → Type 0

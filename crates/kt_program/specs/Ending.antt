@@ -19,7 +19,7 @@ use Rattle.kt_program.specs.declared.fault.ProgramFault.TheVariants as program
 use Rattle.kt_program.specs.declared.line.Asked.{Asked}
 use Rattle.kt_program.specs.declared.line.Run.{Run as RunAsked}
 use Rattle.kt_program.specs.declared.line.Asked.TheVariants.{Certify, Check, Draw, Explain, Live, Play, Run}
-use Rattle.kt_program.specs.Asking.{Ask, IsCertify, IsOfRun}
+use Rattle.kt_program.specs.Asking.{Ask, IsOfRun}
 use Rattle.kt_run.specs.Runs.{IsLogOfRun}
 use Rattle.kt_program.specs.Certified.{CertifiesTo, LeavesCertificates}
 use Rattle.kt_program.specs.Drawn.{DrawsTo, LeavesPicture}
@@ -27,7 +27,7 @@ use Rattle.kt_program.specs.Explained.{AppendsExplained, ExplainsFiles}
 use Rattle.kt_program.specs.Inputs.{AreGiven, IsPlanOfFile}
 use Rattle.kt_program.specs.Names.{Name}
 use Rattle.kt_program.specs.Played.{OverNew}
-use Rattle.kt_program.specs.Made.{IsMadeAs, lived_run, played_run, way_by}
+use Rattle.kt_program.specs.Made.{IsMadeAs, lived_run, order_by, played_run}
 use Rattle.kt_program.specs.Status.{ended_status}
 use Rattle.kt_program.specs.Stored.{BytesTold, JudgesFiles, is_yes, verdict_line}
 
@@ -64,7 +64,7 @@ pub record AppendsRun {F : Type 0} (told : F → BytesTold) (asked : RunAsked) (
   pub begins : AreGiven told asked.steps plan.names given
   pub steps : List Step
   pub rows : List Event
-  pub made : OverNew plan (λ cast. IsMadeAs (way_by asked.by asked.seed asked.kept) plan cast given steps) rows
+  pub made : OverNew plan (λ cast. IsMadeAs asked.by (order_by asked.seed) plan cast given steps) rows
   pub report : Appends old new (report_of plan rows (certificates rows))
 
 -- the run's report; at a fault nothing, unless a writer failed or there was no memory for more of the report
@@ -153,18 +153,14 @@ abbrev pub DrawnFor : {F : Type 0} → List Text → (F → BytesTold) → Bytes
 DrawnFor words told old new Drawn = Ask words (DrawsFor told old new)
 DrawnFor words told old new _ = Unit {0}
 
--- whether a text of any length is to be written to standard output: a report, or certificates
-abbrev pub IsTextAsked : Asked → Type 0
-IsTextAsked asked = IsOfRun asked ⊎ IsCertify asked
-
--- a fault where part of such a text may be written: there was no memory for more of it
-abbrev pub IsInText : List Text → ProgramFault → Type 0
-IsInText words fault = (fault ≡ program.App app.Memory) × Ask words IsTextAsked
+-- a fault where part of a report may be written: there was no memory for more of it
+abbrev pub IsInReport : List Text → ProgramFault → Type 0
+IsInReport words fault = (fault ≡ program.App app.Memory) × Ask words IsOfRun
 
 -- what these words leave
 abbrev pub LeavesOutput : List Text → Result Done Failure → BytesTold → BytesTold → Type 0
 LeavesOutput words (Ok what) old new = LeavesDone what old new
-LeavesOutput words (Err failure) old new = failure.fault ≢ program.App app.Write → (new ≡ old) ⊎ IsInText words failure.fault
+LeavesOutput words (Err failure) old new = failure.fault ≢ program.App app.Write → (new ≡ old) ⊎ IsInReport words failure.fault
 
 -- how the program ends for these words: with the status of what it did; standard output has what that left, and standard
 -- error nothing new without a fault

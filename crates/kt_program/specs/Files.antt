@@ -1,5 +1,5 @@
 -- Which files were opened, and which of them are one.
-use Rattle.std.specs.Prelude.{◌≡◌, ◌≢◌, List, Option, Some, None}
+use Rattle.std.specs.Prelude.{◌≢◌, List, Option, Some, None}
 use Rattle.kt_program.specs.declared.files.FileNumber.{FileNumber}
 use Rattle.kt_program.specs.Names.{IsEachApart}
 

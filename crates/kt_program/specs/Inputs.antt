@@ -1,7 +1,5 @@
 -- What the program makes of the texts of a scenario and of steps.
 use Rattle.std.specs.Prelude.{◌≡◌, ◌≢◌, ◌⊎◌, ◌<◌, ◌++◌, ℕ, List, [], Some, None, length, IfSome}
-use Rattle.kt_text.specs.declared.fault.ReadFault.{ReadFault}
-use Rattle.kt_text.specs.declared.fault.ReadFault.TheVariants as read
 use Rattle.kt_plan.specs.declared.steps.Step.{Step}
 use Rattle.kt_plan.specs.Limits.{Planned}
 use Rattle.kt_scenario.specs.Scenario.{IsScenario, IsFirstScenarioFault}
@@ -51,6 +49,10 @@ abbrev pub AreGiven : {F : Type 0} → (F → BytesTold) → Name → List (List
 AreGiven told None names list = list ≡ []
 AreGiven told (Some name) names list = AreStepsOfFile told names list
 
+-- a fault of reading a text, or want of memory for it
+abbrev pub IsOfReading : ProgramFault → Type 0
+IsOfReading fault = (fault ≡ program.Read) ⊎ (fault ≡ program.App app.Memory)
+
 -- why there is no plan: the first fault of the text; nothing is said of when a reader or memory fails
 abbrev pub IsScenarioRefusal : BytesTold → ProgramFault → Type 0
 IsScenarioRefusal told (program.Scenario fault) = (fault ≢ scenario.Memory) × IfSome told (λ text. IsFirstScenarioFault text fault)
@@ -68,18 +70,3 @@ IsStepsRefusal told names (program.App fault) = fault ≡ app.Memory
 IsStepsRefusal told names program.Line = ⊥
 IsStepsRefusal told names program.SameFile = ⊥
 IsStepsRefusal told names (program.Scenario fault) = ⊥
-
--- why a text was not read, as the program answers it
-abbrev pub of_read : ReadFault → ProgramFault
-of_read read.Read = program.Read
-of_read read.Memory = program.App app.Memory
-
--- a fault of a scenario, as the program answers it
-abbrev pub of_scenario : ScenarioFault → ProgramFault
-of_scenario scenario.Memory = program.App app.Memory
-of_scenario fault = program.Scenario fault
-
--- a fault of a text of steps, as the program answers it
-abbrev pub of_steps : StepsFault → ProgramFault
-of_steps steps.Memory = program.App app.Memory
-of_steps fault = program.Steps fault

@@ -52,7 +52,7 @@ kept_outputs run steps = record { run = run; steps = steps }
 -- the text of such steps is written, if it is asked for, and has no more of them than can be read
 pub record WritesSteps (plan : Planned) (steps : List Step) (old new : BytesTold) : Type 0 where
   pub text : Appends old new (steps_text plan.names steps)
-  pub few : IfSome new (λ _. length steps ≤ most_steps)
+  pub few : IfSome old (λ _. length steps ≤ most_steps)
 
 -- such a run by such steps is written, and the text of its steps
 abbrev pub IsRecorded : (List Step → List Event → Type 0) → Planned → KeptOutputs → KeptOutputs → Type 0

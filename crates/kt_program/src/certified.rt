@@ -1,19 +1,20 @@
 //! Stored logs certified.
 
-ghost use Rattle.std.specs.Prelude.{◌≡◌, IfOk, IfErr, OnOk, All};
-ghost use Rattle.kt_chain.specs.Spelling.{HasShortChains};
-ghost use Rattle.kt_certify.specs.Streamed.{AreCertified};
-ghost use Rattle.kt_program.specs.Certified.{IsNotWritten, IsUncertified, WritesCertificates};
+ghost use Rattle.std.specs.Prelude.{◌≡◌, ◌≢◌, IfOk, IfErr, OnOk};
+ghost use Rattle.kt_program.specs.declared.fault.AppFault.TheVariants as app;
+ghost use Rattle.kt_program.specs.Certified.{CertifiesTo, IsOfCertifying, IsTextOfCertificates, IsUncertified, LeavesCertified, StopsInCertificates, WritesCertificates};
 
-use crate::checked::told_of_log;
-use crate::fault::{AppFailure, AppFault};
-use crate::inputs::Input;
+use crate::fault::{AppFailure, AppFault, Failure};
+use crate::outputs::{deliver, write_text};
+use crate::sources::{Input, ReadFiles, Role, open_input};
+use crate::stored::told_of_log;
 use crate::told::Told;
 use kt_certify::{StreamFault, certify_rows};
-use kt_chain::{Certificate, write_certs};
+use kt_chain::write_certs;
 use kt_log_text::{Record, RowReader};
 use std::alloc::Global;
 use std::io::{Read, Write};
+use std::rt::Files;
 
 /// Writes the certificates of a stored log.
 ///
@@ -26,33 +27,35 @@ pub fn certify_bytes<L: Read + Drop, W: Write>(
     // What is written is the text of the certificates of the rows that the bytes say, which are fit.
     ensures written { OnOk result (WritesCertificates (L.remaining log_reader)
         (W.contents writer.old) (W.contents writer.new)) }
-    // Else nothing is written of a log that can't be read or has no certificates, by its first fault; or writing stops.
-    ensures fault { IfErr result (IsNotWritten (L.remaining log_reader) (W.contents writer.old) (W.contents writer.new)) }
+    // A fault but one of the writer is the first of the log, or why it has no certificates; then nothing is written.
+    ensures fault { IfErr result (λ e. e ≢ app.Write → IsUncertified (L.remaining log_reader) e) }
+    ensures unwritten { IfErr result (λ e. e ≢ app.Write → W.contents writer.new ≡ W.contents writer.old) }
+    // Where the writer fails, a front part of that text is written.
+    ensures stopped { IfErr result (λ e. e ≡ app.Write → StopsInCertificates (L.remaining log_reader)
+        (W.contents writer.old) (W.contents writer.new)) }
 {
-    let log = Input::new(log_reader, "");
-    match certify_log(alloc, log) {
-        Ok(certificates) => {
-            write_certs(alloc, certificates.as_slice(), writer)?;
-            Ok(())
-        }
+    match certify_log(alloc, Input::new(log_reader, "")) {
+        Ok(text) => write_text(text.as_slice(), writer),
         Err(failure) => Err(failure.fault),
     }
 }
 
-/// The certificates of the log that an input tells.
+// The text of the certificates of the log that an input tells.
 #[tactic(auto, using(crate::proofs::StoredLogs::uncertified))]
-pub(crate) fn certify_log<L: Read + Drop>(
-    alloc: Global,
-    log: Input<L>,
-) -> Result<Vec<Certificate>, AppFailure>
-    ensures certificates { IfOk result (λ list. AreCertified (L.remaining log.source) list.items) }
-    ensures short { IfOk result (λ list. All HasShortChains list.items) }
+fn certify_log<L: Read + Drop>(alloc: Global, log: Input<L>) -> Result<Vec<u8>, AppFailure>
+    ensures text { IfOk result (λ text. IsTextOfCertificates (L.remaining log.source) text.items) }
     ensures fault { IfErr result (λ failure. IsUncertified (L.remaining log.source) failure.fault) }
 {
     let mut rows = RowReader::new(alloc, log)?;
     let mut unfit = None;
     match certify_rows(alloc, &mut rows, &mut unfit) {
-        Ok(certificates) => Ok(certificates),
+        Ok(certificates) => {
+            let mut text = Vec::new(alloc);
+            match write_certs(alloc, certificates.as_slice(), &mut text) {
+                Ok(()) => Ok(text),
+                Err(_) => Err(AppFailure::from(AppFault::Memory)),
+            }
+        }
         Err(fault) => {
             let told = told_of(&rows, &fault, &unfit);
             Err(AppFailure {
@@ -76,4 +79,25 @@ fn told_of<L: Read + Drop>(
             None => Told::Nothing,
         },
     }
+}
+
+/// Writes the certificates of the log in a file into the file that is named for them, else to `out`.
+///
+/// Their file is made, or opened and emptied, once the log was found fit.
+#[inline(never)]
+pub(crate) fn certify_files<F: Files, O: Write>(
+    files: &F,
+    alloc: Global,
+    log: &str,
+    cert: Option<&str>,
+    out: &mut O,
+) -> Result<(), Failure>
+    ensures certified { OnOk result (CertifiesTo F.File.remaining cert.entry (O.contents out.old) (O.contents out.new)) }
+    ensures fault { IfErr result (λ failure. IsOfCertifying failure.fault) }
+    ensures output { LeavesCertified result (O.contents out.old) (O.contents out.new) }
+{
+    let mut read = ReadFiles::default();
+    let log = open_input(files, Role::Log, log, &mut read)?;
+    let text = certify_log(alloc, log)?;
+    deliver(files, &read, text.as_slice(), cert, out)
 }

@@ -1,79 +1,93 @@
 //! Stored logs drawn.
 
-ghost use Rattle.std.specs.Prelude.{◌≡◌, ◌≢◌, IfOk, IfErr, OnOk};
-ghost use Rattle.std.specs.Io.KnownBytes.{Appends};
+ghost use Rattle.std.specs.Prelude.{◌≡◌, IfOk, IfErr, OnOk};
 ghost use Rattle.kt_draw.specs.Drawn.{IsPictureOf};
+ghost use Rattle.kt_program.specs.declared.ending.Done.TheVariants.{Drawn};
 ghost use Rattle.kt_program.specs.declared.fault.AppFault.TheVariants as app;
-ghost use Rattle.kt_program.specs.Drawn.{Draws, DrawsCertified, IsCertifiedPictureOf, IsUndrawn, IsUndrawnRun};
+ghost use Rattle.kt_program.specs.Drawn.{AreNamesOf, DrawsTo, IsCertifiedPictureOf, IsOfDrawing, IsOfNames, IsPictureWith, IsUndrawn, IsUndrawnRun, LeavesDrawn};
+ghost use Rattle.kt_program.specs.Names.{Name};
 
-use crate::checked::told_of_log;
-use crate::explained::{StoredRun, read_stored};
-use crate::fault::{AppFailure, AppFault};
-use crate::inputs::Input;
+use crate::ending::Done;
+use crate::fault::{AppFailure, AppFault, Failure};
+use crate::line::Drawing;
+use crate::outputs::deliver;
+use crate::running::scenario_in;
+use crate::sources::{Input, ReadFiles, Role, open_input};
+use crate::stored::{StoredRun, read_stored, told_of_log};
 use crate::told::Told;
 use kt_draw::{DrawFault, Span, draw_certified, draw_rows};
 use kt_log_text::RowReader;
 use kt_plan::Names;
-use kt_text::pieces::write_whole;
 use std::alloc::Global;
 use std::io::{Read, Write};
+use std::rt::Files;
 
-/// Draws rows of a stored log as one SVG document, with these names of its processes, or else their numbers.
+/// Draws rows of the log in a file into the file that is named for the picture, else to `out`.
 ///
 /// A log is drawn up to the first row that breaks a rule; that row is marked, and what comes after it is not read as rows.
-/// The line below says so, or that the log is legal. The text is read to its end, and the picture is made, before anything
-/// is written. Of the rows of the log it keeps those of the picture.
-pub fn draw_bytes<L: Read + Drop, W: Write>(
+/// The line below says so, or that the log is legal, and with certificates what the checker answers. That file is made, or
+/// opened and emptied, once the picture was made.
+#[inline(never)]
+#[tactic(auto, using(crate::proofs::Pictures::leaves, crate::proofs::Pictures::of_names))]
+pub(crate) fn draw_files<F: Files, O: Write>(
+    files: &F,
     alloc: Global,
-    log_reader: L,
-    names: &Names,
-    span: Span,
-    writer: &mut W,
-) -> Result<(), AppFault>
-    // What is written is the picture of the rows that are asked for, of the log that the bytes say.
-    ensures drawn { OnOk result (Draws names.now span (L.remaining log_reader)
-        (W.contents writer.old) (W.contents writer.new)) }
-    // A fault but one of the writer is the first of the log, else that there are no such rows, or too many.
-    ensures fault { IfErr result (λ e. e ≢ app.Write → IsUndrawn span (L.remaining log_reader) e) }
-    ensures unwritten { IfErr result (λ e. e ≢ app.Write → W.contents writer.new ≡ W.contents writer.old) }
+    asked: &Drawing<'_>,
+    out: &mut O,
+) -> Result<Done, Failure>
+    ensures done { IfOk result (λ what. what ≡ Drawn) }
+    ensures drawn { OnOk result (DrawsTo F.File.remaining asked.now (O.contents out.old) (O.contents out.new)) }
+    ensures fault { IfErr result (λ failure. IsOfDrawing asked.now.names failure.fault) }
+    ensures output { LeavesDrawn result (O.contents out.old) (O.contents out.new) }
 {
-    let log = Input::new(log_reader, "");
-    match draw_log(alloc, log, names, span) {
-        Ok(text) => write_picture(text.as_slice(), writer),
-        Err(failure) => Err(failure.fault),
-    }
+    let mut read = ReadFiles::default();
+    let names = names_in(files, alloc, asked.names, &mut read)?;
+    let log = open_input(files, Role::Log, asked.log, &mut read)?;
+    let text = drawn_with(files, alloc, log, asked, &names, &mut read)?;
+    deliver(files, &read, text.as_slice(), asked.svg, out)?;
+    Ok(Done::Drawn)
 }
 
-/// Draws rows of a stored log as `draw_bytes` does, with what its certificates tell: the messages of their chains in the
-/// colours of the instances, and why each member took part. The line below is the checker's answer; where that is an orphan,
-/// the least one stands out.
-pub fn draw_certified_bytes<L: Read + Drop, C: Read + Drop, W: Write>(
+// The picture of the log that an input tells, with the certificates in the file that is named for them, if one is.
+fn drawn_with<'a, F: Files>(
+    files: &F,
     alloc: Global,
-    log_reader: L,
-    cert_reader: C,
+    log: Input<F::File>,
+    asked: &Drawing<'a>,
     names: &Names,
-    span: Span,
-    writer: &mut W,
-) -> Result<(), AppFault>
-    ensures drawn { OnOk result (DrawsCertified names.now span (L.remaining log_reader) (C.remaining cert_reader)
-        (W.contents writer.old) (W.contents writer.new)) }
-    // A fault but one of the writer is the first of the log, else that of the certificates, else that there are no such
-    // rows, or too many.
-    ensures fault { IfErr result (λ e. e ≢ app.Write
-        → IsUndrawnRun span (L.remaining log_reader) (C.remaining cert_reader) e) }
-    ensures unwritten { IfErr result (λ e. e ≢ app.Write → W.contents writer.new ≡ W.contents writer.old) }
+    read: &mut ReadFiles<'a>,
+) -> Result<Vec<u8>, Failure>
+    ensures picture { IfOk result (λ text. IsPictureWith F.File.remaining asked.now.cert names.now asked.now.span
+        (F.File.remaining log.source) text.items) }
+    ensures fault { (name : Name) → IfErr result (λ failure. IsOfNames name failure.fault) }
 {
-    let log = Input::new(log_reader, "");
-    let cert = Input::new(cert_reader, "");
-    match draw_run(alloc, log, cert, names, span) {
-        Ok(text) => write_picture(text.as_slice(), writer),
-        Err(failure) => Err(failure.fault),
-    }
+    let Some(cert) = asked.cert else {
+        return Ok(draw_log(alloc, log, names, asked.span)?);
+    };
+    let cert = open_input(files, Role::Certificates, cert, read)?;
+    Ok(draw_run(alloc, log, cert, names, asked.span)?)
 }
 
-/// The picture of rows of the log that an input tells, with the certificates that another one tells.
+// The names of the objects of the scenario in this file; none where none is named.
+fn names_in<'a, F: Files>(
+    files: &F,
+    alloc: Global,
+    scenario: Option<&'a str>,
+    read: &mut ReadFiles<'a>,
+) -> Result<Names, Failure>
+    ensures names { IfOk result (AreNamesOf F.File.remaining scenario.entry) }
+    ensures fault { IfErr result (λ failure. IsOfNames scenario.entry failure.fault) }
+{
+    let Some(scenario) = scenario else {
+        return Ok(Names::new(alloc));
+    };
+    let plan = scenario_in(files, alloc, scenario, read)?;
+    Ok(plan.names)
+}
+
+// The picture of rows of the log that an input tells, with the certificates that another one tells.
 #[tactic(auto, using(crate::proofs::Pictures::unread_run, crate::proofs::Pictures::undrawn_run))]
-pub(crate) fn draw_run<L: Read + Drop, C: Read + Drop>(
+fn draw_run<L: Read + Drop, C: Read + Drop>(
     alloc: Global,
     log: Input<L>,
     cert: Input<C>,
@@ -92,20 +106,9 @@ pub(crate) fn draw_run<L: Read + Drop, C: Read + Drop>(
     }
 }
 
-/// Writes the text of a picture.
-pub(crate) fn write_picture<W: Write>(text: &[u8], writer: &mut W) -> Result<(), AppFault>
-    ensures written { OnOk result (Appends (W.contents writer.old) (W.contents writer.new) text.now) }
-    ensures fault { IfErr result (λ e. e ≡ app.Write) }
-{
-    match write_whole(text, writer) {
-        Ok(()) => Ok(()),
-        Err(_) => Err(AppFault::Write),
-    }
-}
-
-/// The picture of rows of the log that an input tells.
+// The picture of rows of the log that an input tells.
 #[tactic(auto, using(crate::proofs::Pictures::undrawn))]
-pub(crate) fn draw_log<L: Read + Drop>(
+fn draw_log<L: Read + Drop>(
     alloc: Global,
     log: Input<L>,
     names: &Names,

@@ -3,7 +3,7 @@
 ghost use Rattle.std.specs.Prelude.{◌≡◌, OnOk, OnErr, IfSome};
 ghost use Rattle.std.specs.Io.KnownBytes.{Appends};
 ghost use Rattle.kt_text.specs.Writing.{WritesFront};
-ghost use Rattle.kt_program.specs.Status.{answer_status, done_status, ended_status, status_of};
+ghost use Rattle.kt_program.specs.Status.{done_status, ended_status, status_of};
 ghost use Rattle.kt_program.specs.Faults.{fault_line};
 
 use crate::fault::{Failure, ProgramFault};
@@ -39,17 +39,10 @@ impl Done {
         ensures { result ≡ done_status self }
     {
         match self {
-            Done::Judged(passed) | Done::Explained(passed) => answer_status(passed),
+            Done::Judged(passed) | Done::Explained(passed) => u8::from(!passed),
             Done::Played | Done::Certified | Done::Drawn | Done::Shown => 0,
         }
     }
-}
-
-// The status of an answer: 0 yes, 1 no.
-fn answer_status(passed: bool) -> u8
-    ensures { result ≡ answer_status passed }
-{
-    if passed { 0 } else { 1 }
 }
 
 /// Ends the program: writes the line of a fault, and gives the exit status, whether the line could be written or not.
@@ -58,12 +51,8 @@ pub fn end<E: Write>(outcome: Result<Done, ProgramFault>, err: &mut E) -> u8
     ensures quiet { OnOk outcome (E.contents err.new ≡ E.contents err.old) }
 {
     match outcome {
-        Ok(what) => what.status(),
-        Err(fault) => {
-            let status = fault.status();
-            report_fault(&fault, err);
-            status
-        }
+        Ok(done) => end_told(false, Ok(done), err),
+        Err(fault) => end_told(false, Err(Failure::from(fault)), err),
     }
 }
 
@@ -75,23 +64,13 @@ pub(crate) fn end_told<E: Write>(asked: bool, outcome: Result<Done, Failure>, er
     match outcome {
         Ok(done) => done.status(),
         Err(failure) => {
-            if report_fault(&failure.fault, err) && asked {
-                report_told(&failure, err);
+            if write_fault(err, failure.fault).is_ok() && asked {
+                let _ = write!(err, "{failure}");
+                let _ = err.flush();
             }
             failure.fault.status()
         }
     }
-}
-
-// Writes the line of a fault; true where all of it was written.
-fn report_fault<E: Write>(fault: &ProgramFault, err: &mut E) -> bool {
-    write_fault(err, fault).is_ok()
-}
-
-// Writes what is told of a fault.
-fn report_told<E: Write>(failure: &Failure, err: &mut E) {
-    let _ = write!(err, "{failure}");
-    let _ = err.flush();
 }
 
 /// Writes the line of a fault: the program's name, the fault's words and a line feed. At a fault of the writer a front part of

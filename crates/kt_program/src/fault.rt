@@ -66,10 +66,9 @@ impl AppFault {
             AppFault::Log(LogFault::Read) | AppFault::Cert(CertTextFault::Read) => 3,
             AppFault::Log(LogFault::Memory) | AppFault::Cert(CertTextFault::Memory) => 4,
             AppFault::Log(_) | AppFault::Cert(_) | AppFault::Picture(_) => 2,
-            AppFault::Run(RunFault::Step(_, StepFault::NotEnabled)) => 2,
+            AppFault::RecordTooLong | AppFault::Run(RunFault::Step(_, StepFault::NotEnabled)) => 2,
             AppFault::Run(_) | AppFault::Live(_) | AppFault::Uncertified(_) => 4,
             AppFault::Unfit(_) => 1,
-            AppFault::RecordTooLong => 2,
             AppFault::Write => 3,
             AppFault::Memory => 4,
         }
@@ -234,14 +233,6 @@ impl From<AppFault> for Failure {
 
     fn from(fault: AppFault) -> Failure {
         Failure::from(ProgramFault::App(fault))
-    }
-}
-
-impl From<Memory> for Failure {
-    ghost from_gives = { λ _ f. f.fault ≡ program.App app.Memory };
-
-    fn from(_fault: Memory) -> Failure {
-        Failure::from(ProgramFault::App(AppFault::Memory))
     }
 }
 

@@ -13,53 +13,30 @@ pub(crate) struct FileNumber {
     pub(crate) number: u64,
 }
 
-/// What was read of a file, and which regular file that is, where it is told.
-#[derive(Drop)]
-pub(crate) struct ReadFrom<T> {
-    pub(crate) value: T,
-    pub(crate) file: Option<FileNumber>,
-}
-
 /// Which regular file was opened. None where it is none, as a pipe, or where it is not told.
 pub(crate) fn number_of<W: OpenFile>(file: &W) -> Option<FileNumber> {
-    match file.metadata() {
-        Ok(metadata) => number_of_metadata(&metadata),
-        Err(_) => None,
-    }
+    number_of_metadata(&file.metadata().ok()?)
 }
 
 /// Which regular file is told of so.
 pub(crate) fn number_of_metadata(metadata: &Metadata) -> Option<FileNumber> {
+    let device = metadata.dev();
     let number = metadata.ino();
-    if number == 0 || !metadata.is_file() {
-        return None;
-    }
-    Some(FileNumber {
-        device: metadata.dev(),
-        number,
-    })
+    (number != 0 && metadata.is_file()).then_some(FileNumber { device, number })
 }
 
 /// Whether both are told, and are one file.
 pub(crate) fn is_one(one: Option<FileNumber>, other: Option<FileNumber>) -> bool
     ensures { MatchBool result (¬ AreTwo one other) (AreTwo one other) }
 {
-    match (one, other) {
-        (Some(one), Some(other)) => one == other,
-        _ => false,
-    }
+    one.is_some() && one == other
 }
 
 // Whether a file is one of these.
 fn is_among(file: Option<FileNumber>, files: &[Option<FileNumber>]) -> bool
     ensures { MatchBool result (¬ All (AreTwo file) files.now) (All (AreTwo file) files.now) }
 {
-    for other in files {
-        if is_one(file, *other) {
-            return true;
-        }
-    }
-    false
+    files.iter().any(|other| is_one(file, *other))
 }
 
 /// Whether an output is the file of an input or of another output.

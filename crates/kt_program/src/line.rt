@@ -2,7 +2,7 @@
 
 ghost use Rattle.std.specs.Prelude.{◌≡◌, MatchBool};
 
-use crate::names::{STANDARD, clash, is_among, is_read_twice};
+use crate::names::{Name, STANDARD, clash, is_read_twice};
 use kt_draw::Span;
 
 /// By what a run is made.
@@ -85,12 +85,7 @@ impl<'a> Run<'a> {
     ghost use Rattle.kt_program.specs.Made.{lived_run, played_run};
 
     /// A run by default steps after those that come first.
-    pub(crate) fn played(
-        scenario: &'a str,
-        steps: Option<&'a str>,
-        log: Option<&'a str>,
-        cert: Option<&'a str>,
-    ) -> Run<'a>
+    pub(crate) fn played(scenario: &'a str, steps: Name<'a>, log: Name<'a>, cert: Name<'a>) -> Self
         ensures { result ≡ played_run scenario.entry steps.entry log.entry cert.entry }
     {
         Run {
@@ -105,70 +100,48 @@ impl<'a> Run<'a> {
     }
 
     /// A run in threads.
-    pub(crate) fn lived(scenario: &'a str, log: Option<&'a str>, cert: Option<&'a str>) -> Run<'a>
+    pub(crate) fn lived(scenario: &'a str, log: Name<'a>, cert: Name<'a>) -> Self
         ensures { result ≡ lived_run scenario.entry log.entry cert.entry }
     {
         Run {
             by: By::Threads,
-            scenario,
-            steps: None,
-            seed: None,
-            kept: None,
-            log,
-            cert,
+            ..Run::played(scenario, None, log, cert)
         }
     }
-}
-
-/// The names of the files that are read, and of those that are written.
-#[derive(Clone, Copy)]
-pub(crate) struct FileNames<'a> {
-    pub(crate) inputs: [Option<&'a str>; 3],
-    pub(crate) outputs: [Option<&'a str>; 3],
 }
 
 impl<'a> Asked<'a> {
     ghost use Rattle.kt_program.specs.Names.{IsApart, inputs_of, outputs_of};
 
-    // The names of the files that it reads and writes.
-    fn names(&self) -> FileNames<'a>
-        ensures inputs { result.inputs ≡ inputs_of self.now }
-        ensures outputs { result.outputs ≡ outputs_of self.now }
+    // The names of the files that it reads, and of those that it writes.
+    fn names(&self) -> ([Name<'a>; 3], [Name<'a>; 3])
+        ensures inputs { result.0 ≡ inputs_of self.now }
+        ensures outputs { result.1 ≡ outputs_of self.now }
     {
-        match self {
+        match *self {
             Asked::Play {
                 scenario,
                 steps,
                 log,
                 cert,
-            } => FileNames {
-                inputs: [Some(*scenario), *steps, None],
-                outputs: [*log, *cert, None],
-            },
+            } => ([Some(scenario), steps, None], [log, cert, None]),
             Asked::Live {
                 scenario,
                 log,
                 cert,
-            } => FileNames {
-                inputs: [Some(*scenario), None, None],
-                outputs: [*log, *cert, None],
-            },
-            Asked::Run(run) => FileNames {
-                inputs: [Some(run.scenario), run.steps, None],
-                outputs: [run.log, run.cert, run.kept],
-            },
-            Asked::Check { log, cert } | Asked::Explain { log, cert } => FileNames {
-                inputs: [Some(*log), Some(*cert), None],
-                outputs: [None; 3],
-            },
-            Asked::Certify { log, cert } => FileNames {
-                inputs: [Some(*log), None, None],
-                outputs: [*cert, None, None],
-            },
-            Asked::Draw(asked) => FileNames {
-                inputs: [Some(asked.log), asked.names, asked.cert],
-                outputs: [asked.svg, None, None],
-            },
+            } => ([Some(scenario), None, None], [log, cert, None]),
+            Asked::Run(run) => (
+                [Some(run.scenario), run.steps, None],
+                [run.log, run.cert, run.kept],
+            ),
+            Asked::Check { log, cert } | Asked::Explain { log, cert } => {
+                ([Some(log), Some(cert), None], [None; 3])
+            }
+            Asked::Certify { log, cert } => ([Some(log), None, None], [cert, None, None]),
+            Asked::Draw(asked) => (
+                [Some(asked.log), asked.names, asked.cert],
+                [asked.svg, None, None],
+            ),
         }
     }
 
@@ -177,18 +150,16 @@ impl<'a> Asked<'a> {
     pub fn clash(&self) -> bool
         ensures { MatchBool result (¬ IsApart self.now) (IsApart self.now) }
     {
-        let names = self.names();
-        clash(&names.inputs, &names.outputs) || is_read_twice(&names.inputs)
+        let (inputs, outputs) = self.names();
+        clash(&inputs, &outputs) || is_read_twice(&inputs)
     }
 
     /// A name that is given twice, where one is.
     pub(crate) fn name_twice(&self) -> &'a str {
-        let names = self.names();
-        for (place, output) in names.outputs.iter().enumerate() {
-            if let Some(name) = output {
-                if is_among(*output, &names.inputs) || is_among(*output, &names.outputs[..place]) {
-                    return name;
-                }
+        let (inputs, outputs) = self.names();
+        for (place, output) in outputs.iter().enumerate() {
+            if clash(&inputs, &outputs[..=place]) {
+                return output.unwrap_or(STANDARD);
             }
         }
         STANDARD

@@ -3,6 +3,9 @@
 ghost use Rattle.std.specs.Prelude.{◌↔◌, All, IsTrue, MatchBool};
 ghost use Rattle.kt_program.specs.Names.{Apart, AreApart, IsDescriptor, AreReadOnce, IsDevice, IsStandard, ReadOnce};
 
+/// A name that may be given.
+pub(crate) type Name<'a> = Option<&'a str>;
+
 /// Whether a name may be given again: that of standard input or output, `-`, or a device's: `/dev/null`, `/dev/stdin`,
 /// `/dev/stdout`, `/dev/stderr`, `/dev/tty`, or `/dev/fd/` and a number.
 pub fn is_device(name: &str) -> bool
@@ -18,23 +21,18 @@ pub fn is_device(name: &str) -> bool
 fn is_descriptor(name: &str) -> bool
     ensures { IsTrue result ↔ IsDescriptor name.now }
 {
-    match name.as_bytes().strip_prefix(b"/dev/fd/") {
-        Some(digits) => !digits.is_empty() && digits.iter().all(|digit| digit.is_ascii_digit()),
-        None => false,
-    }
+    let digits = name.as_bytes().strip_prefix(b"/dev/fd/");
+    digits.is_some_and(|digits| !digits.is_empty() && digits.iter().all(u8::is_ascii_digit))
 }
 
 /// The name of standard input where a file is read, and of standard output where one is written.
 pub(crate) const STANDARD: &str = "-";
 
 /// Whether standard output is written: no file is named, or that is.
-pub(crate) fn is_standard(name: Option<&str>) -> bool
+pub(crate) fn is_standard(name: Name<'_>) -> bool
     ensures { MatchBool result (IsStandard name.entry) (¬ IsStandard name.entry) }
 {
-    match name {
-        Some(name) => name == STANDARD,
-        None => true,
-    }
+    name.unwrap_or(STANDARD) == STANDARD
 }
 
 /// The name by which a file is opened that is read.
@@ -52,59 +50,17 @@ pub(crate) fn target_of(name: &str) -> &str {
 }
 
 // Whether both names are given, are the same, and are no device's.
-fn is_same(one: Option<&str>, other: Option<&str>) -> bool
+fn is_same(one: Name<'_>, other: Name<'_>) -> bool
     ensures { MatchBool result (¬ Apart one.entry other.entry) (Apart one.entry other.entry) }
 {
-    match (one, other) {
-        (Some(one), Some(other)) => one == other && !is_device(one),
-        _ => false,
-    }
+    one == other && one.is_some_and(|name| !is_device(name))
 }
 
-/// Whether a name is the same as one of these.
-pub(crate) fn is_among(name: Option<&str>, names: &[Option<&str>]) -> bool
+// Whether a name is the same as one of these.
+fn is_among(name: Name<'_>, names: &[Name<'_>]) -> bool
     ensures { MatchBool result (¬ All (Apart name.entry) names.now) (All (Apart name.entry) names.now) }
 {
-    for other in names {
-        if is_same(name, *other) {
-            return true;
-        }
-    }
-    false
-}
-
-// Whether both are names of standard input.
-fn are_standard(one: Option<&str>, other: Option<&str>) -> bool
-    ensures { MatchBool result (¬ ReadOnce one.entry other.entry) (ReadOnce one.entry other.entry) }
-{
-    match (one, other) {
-        (Some(one), Some(other)) => one == STANDARD && other == STANDARD,
-        _ => false,
-    }
-}
-
-// Whether a name and one of these are names of standard input.
-fn is_read_among(name: Option<&str>, names: &[Option<&str>]) -> bool
-    ensures { MatchBool result (¬ All (ReadOnce name.entry) names.now) (All (ReadOnce name.entry) names.now) }
-{
-    for other in names {
-        if are_standard(name, *other) {
-            return true;
-        }
-    }
-    false
-}
-
-/// Whether standard input is read twice.
-pub(crate) fn is_read_twice(inputs: &[Option<&str>]) -> bool
-    ensures { MatchBool result (¬ AreReadOnce inputs.now) (AreReadOnce inputs.now) }
-{
-    for (place, input) in inputs.iter().enumerate() {
-        if is_read_among(*input, &inputs[..place]) {
-            return true;
-        }
-    }
-    false
+    names.iter().any(|other| is_same(name, *other))
 }
 
 /// Whether an output has the name of an input or of another output. The name of a device may be given again.
@@ -117,4 +73,19 @@ pub fn clash(inputs: &[Option<&str>], outputs: &[Option<&str>]) -> bool
         }
     }
     false
+}
+
+// Whether both are names of standard input.
+fn are_standard(one: Name<'_>, other: Name<'_>) -> bool
+    ensures { MatchBool result (¬ ReadOnce one.entry other.entry) (ReadOnce one.entry other.entry) }
+{
+    one == Some(STANDARD) && other == Some(STANDARD)
+}
+
+/// Whether standard input is read twice.
+pub(crate) fn is_read_twice(inputs: &[Name<'_>; 3]) -> bool
+    ensures { MatchBool result (¬ AreReadOnce inputs.now) (AreReadOnce inputs.now) }
+{
+    let [first, second, third] = *inputs;
+    are_standard(first, second) || are_standard(first, third) || are_standard(second, third)
 }

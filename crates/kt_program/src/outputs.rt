@@ -1,27 +1,34 @@
-//! Where a log, certificates, steps and a picture go.
+//! Where a log, certificates, steps and texts made of stored files go.
 
-ghost use Rattle.std.specs.Prelude.{◌≡◌, IfOk, IfErr};
+ghost use Rattle.std.specs.Prelude.{◌≡◌, ◌≢◌, ◌⊎◌, IfOk, IfErr, OnOk, OnErr};
+ghost use Rattle.std.specs.Io.KnownBytes.{Appends};
+ghost use Rattle.kt_text.specs.Writing.{WritesFront};
 ghost use Rattle.kt_program.specs.declared.fault.AppFault.TheVariants as app;
 ghost use Rattle.kt_program.specs.declared.fault.ProgramFault.TheVariants as program;
 ghost use Rattle.kt_program.specs.Ending.{IsOfOutputs};
 ghost use Rattle.kt_program.specs.Files.{AreOthers};
-ghost use Rattle.kt_program.specs.Outputs.{contents_of, files_of};
+ghost use Rattle.kt_program.specs.Outputs.{TextGoesTo, contents_of, files_of, keep_for, number_of};
 
 use crate::fault::{AppFault, Failure, ProgramFault};
 use crate::files::{FileNumber, is_one, is_twice, number_of, number_of_metadata};
-use crate::names::target_of;
+use crate::names::{is_standard, target_of};
 use crate::shown::Shown;
+use crate::sources::ReadFiles;
 use crate::told::{Attempt, Told};
+use kt_run::Keep;
+use kt_text::pieces::write_whole;
 use std::fs::{OpenFile, OpenOptions};
 use std::io::{Sink, Write};
 use std::rt::Files;
 use std::{fs, io};
 
-/// A file that is written, the name that was given for it, and why a write to it failed.
+/// A file that is written, the name that was given for it, which regular file it is, where that is told, and why a write to it
+/// failed.
 #[derive(Drop)]
 pub struct Named<W> {
     pub(crate) file: W,
     pub(crate) name: Shown,
+    pub(crate) number: Option<FileNumber>,
     why: Option<io::Error>,
 }
 
@@ -32,10 +39,9 @@ pub enum Output<W> {
     Nowhere(Sink),
 }
 
-/// The names of the files that a command writes, as far as they are given, and of those that it has read.
-#[derive(Clone, Copy)]
+/// The names of the files that a command writes, as far as they are given.
+#[derive(Clone, Copy, Default)]
 pub(crate) struct Targets<'a> {
-    pub(crate) read: [Option<&'a str>; 3],
     /// Whether standard output is written.
     pub(crate) prints: bool,
     pub(crate) log: Option<&'a str>,
@@ -44,21 +50,14 @@ pub(crate) struct Targets<'a> {
     pub(crate) svg: Option<&'a str>,
 }
 
-/// An output that was opened, and which regular file it is, where that is told.
-#[derive(Drop)]
-pub(crate) struct Opened<W> {
-    pub(crate) output: Output<W>,
-    pub(crate) file: Option<FileNumber>,
-}
-
-/// What a command writes: a log, certificates, the steps of a run, a picture; and which regular file standard output is, where
-/// that is written and told.
+/// What a command writes: a log, certificates, the steps of a run, a text that was made of stored files; and which regular file
+/// standard output is, where that is written and told.
 #[derive(Drop)]
 pub(crate) struct Outputs<W> {
-    pub(crate) log: Opened<W>,
-    pub(crate) cert: Opened<W>,
-    pub(crate) kept: Opened<W>,
-    pub(crate) svg: Opened<W>,
+    pub(crate) log: Output<W>,
+    pub(crate) cert: Output<W>,
+    pub(crate) kept: Output<W>,
+    pub(crate) svg: Output<W>,
     pub(crate) printed: Option<FileNumber>,
 }
 
@@ -87,6 +86,26 @@ impl<W: Write> Write for Named<W> {
 }
 
 impl<W> Output<W> {
+    // Which regular file it is, where that is told.
+    fn number(&self) -> Option<FileNumber>
+        ensures { result ≡ number_of self.now }
+    {
+        match self {
+            Output::File(named) => named.number,
+            Output::Nowhere(_) => None,
+        }
+    }
+
+    /// What of a run is kept for it, if it takes the steps: the steps, where there is a file for them.
+    pub(crate) fn keep(&self) -> Keep
+        ensures { result ≡ keep_for self.now }
+    {
+        match self {
+            Output::File(_) => Keep::Steps,
+            Output::Nowhere(_) => Keep::Log,
+        }
+    }
+
     // What is told of a write to it that failed.
     fn told(&self) -> Option<Told> {
         let Output::File(named) = self else {
@@ -100,14 +119,22 @@ impl<W> Output<W> {
 }
 
 impl<W> Outputs<W> {
+    // Which regular files they are, standard output too.
+    fn files(&self) -> [Option<FileNumber>; 5]
+        ensures { result ≡ files_of self.now }
+    {
+        [
+            self.log.number(),
+            self.cert.number(),
+            self.kept.number(),
+            self.svg.number(),
+            self.printed,
+        ]
+    }
+
     /// What is told of a write that failed: to one of these, or else to standard output.
     pub(crate) fn told(&self) -> Told {
-        for output in [
-            &self.log.output,
-            &self.cert.output,
-            &self.kept.output,
-            &self.svg.output,
-        ] {
+        for output in [&self.log, &self.cert, &self.kept, &self.svg] {
             if let Some(told) = output.told() {
                 return told;
             }
@@ -134,63 +161,33 @@ impl<W: Write> Write for Output<W> {
     }
 }
 
-/// The files of these names, opened in this order, or made. None is an input or another one, nor is standard output where it is
-/// written, as far as that is told. At a fault as at `Ok`, each has what it had.
+/// The files of these names, opened in this order, or made. None is one that was read or another one, nor is standard output
+/// where it is written, as far as that is told. At a fault as at `Ok`, each has what it had.
 pub(crate) fn outputs_of<F: Files>(
     files: &F,
-    inputs: &[Option<FileNumber>],
+    read: &ReadFiles<'_>,
     names: &Targets<'_>,
 ) -> Result<Outputs<F::File>, Failure>
-    ensures apart { IfOk result (λ outputs. AreOthers inputs.now (files_of outputs)) }
+    ensures apart { IfOk result (λ outputs. AreOthers read.now.numbers (files_of outputs)) }
     ensures fault { IfErr result (λ failure. IsOfOutputs failure.fault) }
 {
     let outputs = opened_outputs(files, names)?;
-    let found = [
-        outputs.log.file,
-        outputs.cert.file,
-        outputs.kept.file,
-        outputs.svg.file,
-        outputs.printed,
-    ];
-    if is_twice(inputs, &found) {
+    let found = outputs.files();
+    if is_twice(&read.numbers, &found) {
         return Err(Failure {
             fault: ProgramFault::SameFile,
-            told: told_twice(inputs, &found, names),
+            told: told_twice(read, &found, names),
         });
     }
     Ok(outputs)
 }
 
-/// Refuses standard output where it is one of these files that were read by these names, as far as that is told.
-pub(crate) fn refuse_read_output<F: Files>(
-    files: &F,
-    inputs: &[Option<FileNumber>],
-    read: [Option<&str>; 3],
-) -> Result<(), Failure>
-    ensures { IfErr result (λ failure. IsOfOutputs failure.fault) }
-{
-    let targets = Targets {
-        read,
-        prints: true,
-        log: None,
-        cert: None,
-        kept: None,
-        svg: None,
-    };
-    outputs_of(files, inputs, &targets)?;
-    Ok(())
-}
-
 // What is told of a file that is one of the others: both names.
-fn told_twice(
-    inputs: &[Option<FileNumber>],
-    found: &[Option<FileNumber>; 5],
-    names: &Targets<'_>,
-) -> Told {
+fn told_twice(read: &ReadFiles<'_>, found: &[Option<FileNumber>; 5], names: &Targets<'_>) -> Told {
     let written = [names.log, names.cert, names.kept, names.svg, None];
     for (place, output) in found.iter().enumerate() {
         let name = written[place].unwrap_or("standard output");
-        for (other, input) in inputs.iter().zip(&names.read) {
+        for (other, input) in read.numbers.iter().zip(&read.names) {
             if is_one(*output, *other) {
                 return Told::one_file(input.unwrap_or(""), name);
             }
@@ -213,15 +210,16 @@ fn opened_outputs<F: Files>(files: &F, names: &Targets<'_>) -> Result<Outputs<F:
         cert: open_output(files, names.cert)?,
         kept: open_output(files, names.kept)?,
         svg: open_output(files, names.svg)?,
-        printed: printed_file(files, names.prints),
+        printed: if names.prints {
+            printed_file(files)
+        } else {
+            None
+        },
     })
 }
 
-// Which regular file standard output is, where that is asked and told.
-fn printed_file<F: Files>(files: &F, is_asked: bool) -> Option<FileNumber> {
-    if !is_asked {
-        return None;
-    }
+// Which regular file standard output is, where that is told.
+fn printed_file<F: Files>(files: &F) -> Option<FileNumber> {
     match fs::metadata(files, "/dev/stdout") {
         Ok(metadata) => number_of_metadata(&metadata),
         Err(_) => None,
@@ -229,62 +227,45 @@ fn printed_file<F: Files>(files: &F, is_asked: bool) -> Option<FileNumber> {
 }
 
 // Opens a file of this name, if one is given, or makes it. What it has stays.
-fn open_output<F: Files>(files: &F, name: Option<&str>) -> Result<Opened<F::File>, Failure>
+fn open_output<F: Files>(files: &F, name: Option<&str>) -> Result<Output<F::File>, Failure>
     ensures fault { IfErr result (λ failure. failure.fault ≡ program.App app.Write) }
 {
     let Some(name) = name else {
-        return Ok(Opened {
-            output: Output::Nowhere(io::sink()),
-            file: None,
-        });
+        return Ok(Output::Nowhere(io::sink()));
     };
+    let shown = Shown::of(name.as_bytes());
     let made = OpenOptions::new()
         .write(true)
         .create(true)
         .open(files, target_of(name));
     match made {
-        Ok(file) => {
-            let number = number_of(&file);
-            Ok(Opened {
-                output: Output::File(Named {
-                    file,
-                    name: Shown::of(name.as_bytes()),
-                    why: None,
-                }),
-                file: number,
-            })
-        }
+        Ok(file) => Ok(Output::File(Named {
+            number: number_of(&file),
+            file,
+            name: shown,
+            why: None,
+        })),
         Err(error) => Err(Failure {
             fault: ProgramFault::App(AppFault::Write),
-            told: Told::attempt(Attempt::Make, Shown::of(name.as_bytes()), &error),
+            told: Told::attempt(Attempt::Make, shown, &error),
         }),
     }
 }
 
 impl<W: OpenFile> Outputs<W> {
-    /// Empties these files, none of which is one of these inputs or another one of them.
-    pub(crate) fn empty(&self, _inputs: &[Option<FileNumber>]) -> Result<(), Failure>
-        requires { AreOthers _inputs.now (files_of self.now) }
+    /// Empties these files, none of which is one that was read or another one of them.
+    pub(crate) fn empty(&self, _read: &ReadFiles<'_>) -> Result<(), Failure>
+        requires { AreOthers _read.now.numbers (files_of self.now) }
         ensures { IfErr result (λ failure. failure.fault ≡ program.App app.Write) }
     {
-        empty(&self.log.output)?;
-        empty(&self.cert.output)?;
-        empty(&self.kept.output)?;
-        empty(&self.svg.output)
-    }
-}
-
-// Empties a file that was opened.
-fn empty<W: OpenFile>(output: &Output<W>) -> Result<(), Failure>
-    ensures { IfErr result (λ failure. failure.fault ≡ program.App app.Write) }
-{
-    let emptied = match output {
-        Output::File(named) => empty_file(&named.file),
-        Output::Nowhere(_) => Ok(()),
-    };
-    match emptied {
-        Ok(()) => Ok(()),
-        Err(_) => Err(Failure::from(AppFault::Write)),
+        for output in [&self.log, &self.cert, &self.kept, &self.svg] {
+            if let Output::File(named) = output {
+                if empty_file(&named.file).is_err() {
+                    return Err(Failure::from(AppFault::Write));
+                }
+            }
+        }
+        Ok(())
     }
 }
 
@@ -294,4 +275,51 @@ fn empty_file<W: OpenFile>(file: &W) -> io::Result<()> {
         file.set_len(0)?;
     }
     Ok(())
+}
+
+/// Writes a text, and flushes the writer; at a fault, a front part of it is written.
+pub(crate) fn write_text<W: Write>(text: &[u8], writer: &mut W) -> Result<(), AppFault>
+    ensures written { OnOk result (Appends (W.contents writer.old) (W.contents writer.new) text.now) }
+    ensures fault { IfErr result (λ e. e ≡ app.Write) }
+    ensures stopped { OnErr result (WritesFront (W.contents writer.old) (W.contents writer.new) text.now) }
+{
+    match write_whole(text, writer) {
+        Ok(()) => Ok(()),
+        Err(_) => Err(AppFault::Write),
+    }
+}
+
+/// Writes a text that was made of files that were read: into the file of this name, which is none of them and is emptied first,
+/// or to `out` where none is named, or `-` is.
+pub(crate) fn deliver<F: Files, O: Write>(
+    files: &F,
+    read: &ReadFiles<'_>,
+    text: &[u8],
+    name: Option<&str>,
+    out: &mut O,
+) -> Result<(), Failure>
+    ensures output { OnOk result (TextGoesTo name.entry text.now (O.contents out.old) (O.contents out.new)) }
+    ensures fault { IfErr result (λ failure. (failure.fault ≡ program.SameFile)
+        ⊎ (failure.fault ≡ program.App app.Write)) }
+    ensures kept { IfErr result (λ failure. failure.fault ≢ program.App app.Write → O.contents out.new ≡ O.contents out.old) }
+{
+    let prints = is_standard(name);
+    let targets = Targets {
+        prints,
+        svg: if prints { None } else { name },
+        ..Targets::default()
+    };
+    let mut outputs = outputs_of(files, read, &targets)?;
+    if prints {
+        write_text(text, out)?;
+        return Ok(());
+    }
+    outputs.empty(read)?;
+    match write_text(text, &mut outputs.svg) {
+        Ok(()) => Ok(()),
+        Err(fault) => Err(Failure {
+            fault: ProgramFault::App(fault),
+            told: outputs.told(),
+        }),
+    }
 }

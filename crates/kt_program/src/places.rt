@@ -26,22 +26,18 @@ pub(crate) fn line_of(fields: &ByteRecord, end: Position) -> u64 {
 
 // How often the fields of a record have a byte.
 fn count_in(fields: &ByteRecord, wanted: u8) -> u64 {
-    let mut count: u64 = 0;
-    for field in fields.iter() {
-        for byte in field {
-            if *byte == wanted {
-                count = count.saturating_add(1);
-            }
-        }
-    }
-    count
+    fields
+        .as_slice()
+        .iter()
+        .filter(|byte| **byte == wanted)
+        .count() as u64
 }
 
 // How many bytes the fields of a record have, with a comma between each and the next one, and each quote written twice.
 fn bytes_joined(fields: &ByteRecord) -> u64 {
-    let mut count = count_in(fields, b'"');
-    for field in fields.iter() {
-        count = count.saturating_add(field.len() as u64).saturating_add(1);
-    }
-    count.saturating_sub(1)
+    let commas = fields.len().saturating_sub(1) as u64;
+    let bytes = fields.as_slice().len() as u64;
+    bytes
+        .saturating_add(commas)
+        .saturating_add(count_in(fields, b'"'))
 }

@@ -19,7 +19,6 @@ ghost use Rattle.kt_program.specs.Played.{IsOfWriting, IsWritten, StopsAtFault, 
 
 use crate::fault::AppFault;
 use crate::laws::no_message_is_lost;
-use crate::runs::played_cast;
 use kt_certify::certificates_of_run;
 use kt_chain::write_certs;
 use kt_held::Cast;
@@ -27,8 +26,9 @@ use kt_log_text::write_csv;
 use kt_object::Recoverable;
 use kt_plan::{Plan, Step};
 use kt_report::report_of_run;
+use kt_run::{Keep, Order, kept_run_of};
 use kt_spacetime::SpaceTime;
-use kt_threads::live_log_of;
+use kt_threads::kept_live_run_of;
 use std::alloc::Global;
 use std::io::Write;
 use std::sync::Wait;
@@ -83,8 +83,17 @@ pub fn play_plan<L: Write, C: Write, R: Write>(
     // No list is kept of what a process is told, so none lacks memory.
     ensures untold { IfErr result (λ e. (p : ℕ) → e ≢ AppFault.Run (run_fault.Journal p)) }
 {
-    let log = played_cast(alloc, plan, steps, &mut None, cast)?;
-    write_run(alloc, plan, &log, log_writer, cert_writer, report_writer)
+    match kept_run_of(alloc, plan, steps, Order::Default, Keep::Log, cast) {
+        Ok(run) => write_run(
+            alloc,
+            plan,
+            &run.log,
+            log_writer,
+            cert_writer,
+            report_writer,
+        ),
+        Err(stop) => Err(AppFault::from(stop.fault)),
+    }
 }
 
 /// Runs a plan over these objects, each process in a thread of its own, and writes its log, then its certificates, then its
@@ -128,8 +137,15 @@ pub fn live_plan<T: Threads + Wait + Sync, L: Write, C: Write, R: Write>(
         ⊎ MayReject (λ b saved. may_reject b saved) (slice_index plan.now.kinds p)
         (slice_index_or (map (λ row. row.items) cast.items) p [])) }
 {
-    let log = live_log_of(rt, alloc, plan, cast)?;
-    write_run(alloc, plan, &log, log_writer, cert_writer, report_writer)
+    let run = kept_live_run_of(rt, alloc, plan, Keep::Log, cast)?;
+    write_run(
+        alloc,
+        plan,
+        &run.log,
+        log_writer,
+        cert_writer,
+        report_writer,
+    )
 }
 
 // Writes the log of a run, then its certificates, then its report.

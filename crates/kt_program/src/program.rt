@@ -11,9 +11,9 @@ ghost use Rattle.kt_program.specs.Asking.{EndsFor, IsRequest, IsUnshown};
 ghost use Rattle.kt_program.specs.Ending.{CertifiedFor, DrawnFor, Ends, EndsOn, JudgedFor, LeavesOutput, PlayedFor};
 
 use crate::ask::{AskFault, asked};
-use crate::certifying::certify_files;
+use crate::certified::certify_files;
 use crate::checked::check_files;
-use crate::drawing::draw_files;
+use crate::drawn::draw_files;
 use crate::ending::{Done, end, end_told};
 use crate::explained::explain_files;
 use crate::fault::{AppFault, Failure, ProgramFault};

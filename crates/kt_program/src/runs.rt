@@ -1,35 +1,28 @@
 //! Runs over new objects, made serially or in threads, and what is written of them.
 
-ghost use Rattle.std.specs.Prelude.{◌≡◌, ◌≢◌, ◌<◌, ◌⊎◌, [], ℕ, IfOk, IfErr, OnOk, All, length, map, slice_index, slice_index_or};
-ghost use Rattle.kt_core.specs.declared.faults.StepFault.{StepFault};
+ghost use Rattle.std.specs.Prelude.{◌≡◌, ◌⊎◌, ◌<◌, [], ℕ, List, IfOk, IfErr, OnOk, All, length, map, slice_index, slice_index_or};
 ghost use Rattle.kt_held.specs.Casts.{HasSizes, HasKind};
-ghost use Rattle.kt_held.specs.Holdings.{content};
 ghost use Rattle.kt_held.specs.Refusals.{IsLeastRefused};
 ghost use Rattle.kt_object.specs.Reliable.{IsReliable};
 ghost use Rattle.kt_object.specs.Value.{opening_value};
 ghost use Rattle.kt_plan.specs.Limits.{IsKindOfObject};
+ghost use Rattle.kt_plan.specs.declared.steps.Step.{Step as Steps};
 ghost use Rattle.kt_plans.specs.Follows.{FollowsPlan};
 ghost use Rattle.kt_plans.specs.Headline.{IsCertified, IsPromised};
-ghost use Rattle.kt_run.specs.Faults.{Answers};
-ghost use Rattle.kt_run.specs.Orders.{IsOneRefused, IsOneStopped};
-ghost use Rattle.kt_run.specs.Refused.{IsStepRefused, IsStopped};
 ghost use Rattle.kt_run.specs.Rejections.{MayReject};
-ghost use Rattle.kt_run.specs.Runs.{IsPlayed};
 ghost use Rattle.kt_scenario.specs.Steps.{most_steps};
 ghost use Rattle.kt_scenario.specs.Written.{steps_text};
 ghost use Rattle.kt_text.specs.Writing.{WritesFront};
-ghost use Rattle.kt_threads.specs.Faults.{AnswersLive};
-ghost use Rattle.kt_threads.specs.declared.faults.LiveFault.TheVariants as live_fault;
 ghost use Rattle.kt_program.specs.declared.fault.AppFault.TheVariants as app;
-ghost use Rattle.kt_program.specs.KeptLives.{IsKeptLive};
-ghost use Rattle.kt_program.specs.Made.{IsFaultOverNew, IsMadeAs, told_by};
-ghost use Rattle.kt_program.specs.Outputs.{contents_of};
+ghost use Rattle.kt_program.specs.Made.{AreListed, IsFaultOverNew, IsMadeAs, IsMadeOverNew, order_by, told_by};
+ghost use Rattle.kt_program.specs.Outputs.{contents_of, keep_for};
 ghost use Rattle.kt_program.specs.Played.{IsOfWriting, OverNew, WritesRun};
-ghost use Rattle.kt_program.specs.Recorded.{IsKeptRun, IsOfRecording, IsRecorded, StopsRecording, WritesSteps};
+ghost use Rattle.kt_program.specs.Recorded.{IsOfRecording, IsRecorded, StopsRecording, WritesSteps};
 
 use crate::casts::cast_of;
 use crate::fault::AppFault;
 use crate::laws::no_message_is_lost;
+use crate::line::{By, Run};
 use crate::outputs::{Output, Outputs};
 use kt_base::Memory;
 use kt_certify::certificates_of_run;
@@ -40,10 +33,10 @@ use kt_object::{Last, Object, Recoverable, SlotBook, Sum, Tail};
 use kt_plan::{Plan, Step};
 use kt_plans::Hindrance;
 use kt_report::report_of_run;
-use kt_run::{Keep, Order, RecordedRun, RunFault, kept_run_of};
+use kt_run::{Keep, Order, RecordedRun, kept_run_of};
 use kt_scenario::write_steps;
 use kt_spacetime::SpaceTime;
-use kt_threads::{LiveFault, live_log_of, live_recorded_run_of};
+use kt_threads::kept_live_run_of;
 use std::alloc::Global;
 use std::io::Write;
 use std::sync::Wait;
@@ -52,67 +45,56 @@ use std::thread::Threads;
 // How many steps a text of steps has at most.
 const MOST_STEPS: usize = 1_048_576;
 
-/// How a run is made, and whether its steps are kept.
-#[derive(Clone, Copy)]
-pub(crate) enum Way {
-    /// The steps given, then default steps.
-    Played,
-    /// The steps given, then those that come next in an order; all are kept.
-    Ordered(Order),
-    /// In threads.
-    Lived,
-    /// In threads, and the steps are kept.
-    LivedKept,
-}
-
-/// Makes a run of a plan over new objects, and writes its log, then its certificates, then the text of its steps, where that
-/// is asked, then its report. Each writer is flushed.
+/// Makes the run of a plan that is asked for over new objects, and writes its log, then its certificates, then the text of its
+/// steps, where that is asked, then its report. Each writer is flushed.
 ///
 /// Where the steps are to be written, a run of more than 2^20 steps is a fault: a text of steps has no more. What was written
 /// before a fault stays.
-#[tactic(auto, using(crate::proofs::OrderedRuns::recorded_by))]
 pub(crate) fn run_objects<T: Threads + Wait + Sync, W: Write, R: Write>(
     rt: &T,
     alloc: Global,
     plan: &Plan,
     steps: &[Step],
-    way: Way,
+    run: &Run<'_>,
     hindrance: &mut Option<Hindrance>,
     outputs: &mut Outputs<W>,
     out: &mut R,
 ) -> Result<(), AppFault>
     // There is one list of rows, of which log, certificates and report are written, and one list of steps, whose text is
-    // written: they are those of a run of the plan that is made in this way, and comes to rest.
-    ensures recorded { OnOk result (IsRecorded
-        (λ made. OverNew plan.now (λ cast. IsMadeAs way plan.now cast steps.now made)) plan.now
+    // written: they are those of a run of the plan that is made as is asked, and comes to rest.
+    ensures recorded { OnOk result (IsRecorded (λ made. OverNew plan.now
+        (λ cast. IsMadeAs run.now.by (order_by run.now.seed) plan.now cast steps.now made)) plan.now
         (told_by W.contents outputs.old (R.contents out.old)) (told_by W.contents outputs.new (R.contents out.new))) }
     // Where it stops: all of what comes earlier is written, of such a run, a front part of the text in which it stops, and
     // nothing of what comes later; where the steps are too many for a text, the log and the certificates alone.
-    ensures stopped { IfErr result (StopsRecording
-        (λ made. OverNew plan.now (λ cast. IsMadeAs way plan.now cast steps.now made)) plan.now
+    ensures stopped { IfErr result (StopsRecording (λ made. OverNew plan.now
+        (λ cast. IsMadeAs run.now.by (order_by run.now.seed) plan.now cast steps.now made)) plan.now
         (told_by W.contents outputs.old (R.contents out.old)) (told_by W.contents outputs.new (R.contents out.new))) }
-    // A fault is one of writing, or what a run of this way meets over new objects.
-    ensures fault { IfErr result (λ e. IsOfRecording e ⊎ IsFaultOverNew way plan.now steps.now e) }
+    // A fault is one of writing, or what such a run meets over new objects.
+    ensures fault { IfErr result (λ e. IsOfRecording e
+        ⊎ IsFaultOverNew run.now.by (order_by run.now.seed) plan.now steps.now e) }
 {
-    let run = new_run(rt, alloc, plan, steps, way, hindrance)?;
-    write_recorded(alloc, plan, &run.log, run.steps.as_slice(), outputs, out)
+    let keep = outputs.kept.keep();
+    let made = new_run(rt, alloc, plan, steps, run, keep, hindrance)?;
+    write_recorded(alloc, plan, &made.log, made.steps.as_slice(), outputs, out)
 }
 
-// A run over new objects; its steps where the way keeps them.
+// The run that is asked for, over new objects.
 fn new_run<T: Threads + Wait + Sync>(
     rt: &T,
     alloc: Global,
     plan: &Plan,
     steps: &[Step],
-    way: Way,
+    run: &Run<'_>,
+    keep: Keep,
     hindrance: &mut Option<Hindrance>,
 ) -> Result<RecordedRun, AppFault>
-    ensures made { IfOk result (λ run. OverNew plan.now
-        (λ cast. IsMadeAs way plan.now cast steps.now run.steps.items) run.log.rows) }
-    ensures promised { IfOk result (λ run. IsPromised run.log.rows) }
-    ensures certified { IfOk result (λ run. IsCertified run.log.rows) }
-    ensures follows { IfOk result (λ run. FollowsPlan plan.now run.log.rows) }
-    ensures fault { IfErr result (IsFaultOverNew way plan.now steps.now) }
+    ensures made { IfOk result (λ made. IsMadeOverNew run.now.by (order_by run.now.seed) keep plan.now steps.now
+        made.steps.items made.log.rows) }
+    ensures promised { IfOk result (λ made. IsPromised made.log.rows) }
+    ensures certified { IfOk result (λ made. IsCertified made.log.rows) }
+    ensures follows { IfOk result (λ made. FollowsPlan plan.now made.log.rows) }
+    ensures fault { IfErr result (IsFaultOverNew run.now.by (order_by run.now.seed) plan.now steps.now) }
 {
     let _processes = plan.size();
     let mut book = SlotBook::new(alloc);
@@ -130,7 +112,7 @@ fn new_run<T: Threads + Wait + Sync>(
         }
     };
     let cast = cast_of(alloc, plan, make)?;
-    run_of(rt, alloc, plan, steps, way, hindrance, cast)
+    run_of(rt, alloc, plan, steps, run, keep, hindrance, cast)
 }
 
 // The same over objects that the plan asks for, at their opening values, which can always be saved and brought back.
@@ -139,7 +121,8 @@ fn run_of<T: Threads + Wait + Sync>(
     alloc: Global,
     plan: &Plan,
     steps: &[Step],
-    way: Way,
+    run: &Run<'_>,
+    keep: Keep,
     hindrance: &mut Option<Hindrance>,
     cast: Cast,
 ) -> Result<RecordedRun, AppFault>
@@ -151,99 +134,12 @@ fn run_of<T: Threads + Wait + Sync>(
         ¬ IsLeastRefused (λ b. may_save b) (λ b. may_refuse b) (map (λ row. row.items) cast.items) p }
     requires taken { (p : ℕ) → ¬ MayReject (λ b saved. may_reject b saved) (slice_index plan.now.kinds p)
         (slice_index_or (map (λ row. row.items) cast.items) p []) }
-    ensures made { IfOk result (λ run. OverNew plan.now
-        (λ cast. IsMadeAs way plan.now cast steps.now run.steps.items) run.log.rows) }
-    ensures promised { IfOk result (λ run. IsPromised run.log.rows) }
-    ensures certified { IfOk result (λ run. IsCertified run.log.rows) }
-    ensures follows { IfOk result (λ run. FollowsPlan plan.now run.log.rows) }
-    ensures fault { IfErr result (IsFaultOverNew way plan.now steps.now) }
-{
-    match way {
-        Way::Played => match played_cast(alloc, plan, steps, hindrance, cast) {
-            Ok(log) => Ok(unkept(alloc, log)),
-            Err(fault) => Err(AppFault::from(fault)),
-        },
-        Way::Ordered(order) => match recorded_cast(alloc, plan, steps, order, hindrance, cast) {
-            Ok(run) => Ok(run),
-            Err(fault) => Err(AppFault::from(fault)),
-        },
-        Way::Lived => match live_log_of(rt, alloc, plan, cast) {
-            Ok(log) => Ok(unkept(alloc, log)),
-            Err(fault) => Err(AppFault::from(fault)),
-        },
-        Way::LivedKept => match recorded_live_cast(rt, alloc, plan, cast) {
-            Ok(run) => Ok(run),
-            Err(fault) => Err(AppFault::from(fault)),
-        },
-    }
-}
-
-// A run whose steps are not kept.
-fn unkept(alloc: Global, log: SpaceTime) -> RecordedRun
-    ensures { result.log.rows ≡ log.rows }
-{
-    RecordedRun {
-        log,
-        steps: Vec::new(alloc),
-    }
-}
-
-/// The log of a run over these objects that goes on by default steps.
-pub(crate) fn played_cast(
-    alloc: Global,
-    plan: &Plan,
-    steps: &[Step],
-    hindrance: &mut Option<Hindrance>,
-    cast: Cast,
-) -> Result<SpaceTime, RunFault>
-    ensures run { IfOk result (λ log. IsPlayed plan.now
-        (map (λ row. map (λ b. content (kind_of b) (value_of b)) row.items) cast.items) steps.now log.rows) }
-    ensures promised { IfOk result (λ log. IsPromised log.rows) }
-    ensures certified { IfOk result (λ log. IsCertified log.rows) }
-    ensures follows { IfOk result (λ log. FollowsPlan plan.now log.rows) }
-    ensures fault { IfErr result (Answers plan.now (map (λ row. map (λ b. kind_of b) row.items) cast.items)) }
-    ensures refused { IfErr result (λ fault. (done : ℕ) (why : StepFault) → fault ≡ RunFault.Step done why →
-        IsStepRefused plan.now (map (λ row. map (λ b. content (kind_of b) (value_of b)) row.items) cast.items) steps.now done why) }
-    ensures object { IfErr result (λ fault. (p : ℕ) → fault ≡ RunFault.Object p →
-        IsLeastRefused (λ b. may_save b) (λ b. may_refuse b) (map (λ row. row.items) cast.items) p
-        ⊎ (IsStopped plan.now (map (λ row. map (λ b. content (kind_of b) (value_of b)) row.items) cast.items) steps.now p
-        × MayReject (λ b saved. may_reject b saved) (slice_index plan.now.kinds p)
-        (slice_index_or (map (λ row. row.items) cast.items) p []))) }
-    ensures untold { IfErr result (λ fault. (p : ℕ) → fault ≢ RunFault.Journal p) }
-{
-    match kept_run_of(alloc, plan, steps, Order::Default, Keep::Log, cast) {
-        Ok(run) => Ok(run.log),
-        Err(stop) => {
-            *hindrance = stop.hindrance;
-            Err(stop.fault)
-        }
-    }
-}
-
-// A run over these objects, with its steps.
-fn recorded_cast(
-    alloc: Global,
-    plan: &Plan,
-    steps: &[Step],
-    order: Order,
-    hindrance: &mut Option<Hindrance>,
-    cast: Cast,
-) -> Result<RecordedRun, RunFault>
-    ensures kept { IfOk result (λ run. IsKeptRun plan.now
-        (map (λ row. map (λ b. content (kind_of b) (value_of b)) row.items) cast.items) steps.now order run.steps.items
-        run.log.rows) }
-    ensures promised { IfOk result (λ run. IsPromised run.log.rows) }
-    ensures certified { IfOk result (λ run. IsCertified run.log.rows) }
-    ensures follows { IfOk result (λ run. FollowsPlan plan.now run.log.rows) }
-    ensures fault { IfErr result (Answers plan.now (map (λ row. map (λ b. kind_of b) row.items) cast.items)) }
-    ensures refused { IfErr result (λ fault. (done : ℕ) (why : StepFault) → fault ≡ RunFault.Step done why →
-        IsOneRefused plan.now (map (λ row. map (λ b. content (kind_of b) (value_of b)) row.items) cast.items) done why) }
-    ensures object { IfErr result (λ fault. (p : ℕ) → fault ≡ RunFault.Object p →
-        IsLeastRefused (λ b. may_save b) (λ b. may_refuse b) (map (λ row. row.items) cast.items) p
-        ⊎ (IsOneStopped plan.now (map (λ row. map (λ b. content (kind_of b) (value_of b)) row.items) cast.items) p
-        × MayReject (λ b saved. may_reject b saved) (slice_index plan.now.kinds p)
-        (slice_index_or (map (λ row. row.items) cast.items) p []))) }
-    ensures untold { IfErr result (λ fault. (p : ℕ) → fault ≢ RunFault.Journal p) }
+    ensures made { IfOk result (λ made. IsMadeOverNew run.now.by (order_by run.now.seed) keep plan.now steps.now
+        made.steps.items made.log.rows) }
+    ensures promised { IfOk result (λ made. IsPromised made.log.rows) }
+    ensures certified { IfOk result (λ made. IsCertified made.log.rows) }
+    ensures follows { IfOk result (λ made. FollowsPlan plan.now made.log.rows) }
+    ensures fault { IfErr result (IsFaultOverNew run.now.by (order_by run.now.seed) plan.now steps.now) }
 {
     let _processes = plan.size();
     kt_plans::certificates_of_promised_logs();
@@ -253,41 +149,29 @@ fn recorded_cast(
     kt_plans::told_of_runs();
     kt_run::one_run();
     kt_scenario::steps_are_read_back();
-    match kept_run_of(alloc, plan, steps, order, Keep::Steps, cast) {
-        Ok(run) => Ok(run),
-        Err(stop) => {
-            *hindrance = stop.hindrance;
-            Err(stop.fault)
-        }
+    match run.by {
+        By::Serial => match kept_run_of(alloc, plan, steps, order_of(run.seed), keep, cast) {
+            Ok(made) => Ok(made),
+            Err(stop) => {
+                *hindrance = stop.hindrance;
+                Err(AppFault::from(stop.fault))
+            }
+        },
+        By::Threads => match kept_live_run_of(rt, alloc, plan, keep, cast) {
+            Ok(made) => Ok(made),
+            Err(fault) => Err(AppFault::from(fault)),
+        },
     }
 }
 
-// A run in threads over these objects, with its steps.
-fn recorded_live_cast<T: Threads + Wait + Sync>(
-    rt: &T,
-    alloc: Global,
-    plan: &Plan,
-    cast: Cast,
-) -> Result<RecordedRun, LiveFault>
-    ensures kept { IfOk result (λ run. IsKeptLive plan.now
-        (map (λ row. map (λ b. content (kind_of b) (value_of b)) row.items) cast.items) run.steps.items run.log.rows) }
-    ensures promised { IfOk result (λ run. IsPromised run.log.rows) }
-    ensures certified { IfOk result (λ run. IsCertified run.log.rows) }
-    ensures follows { IfOk result (λ run. FollowsPlan plan.now run.log.rows) }
-    ensures fault { IfErr result (AnswersLive plan.now (map (λ row. map (λ b. kind_of b) row.items) cast.items)) }
-    ensures object { IfErr result (λ fault. (p : ℕ) → fault ≡ live_fault.Object p →
-        IsLeastRefused (λ b. may_save b) (λ b. may_refuse b) (map (λ row. row.items) cast.items) p
-        ⊎ MayReject (λ b saved. may_reject b saved) (slice_index plan.now.kinds p)
-        (slice_index_or (map (λ row. row.items) cast.items) p [])) }
+// The order in which steps are made: drawn where there is a seed.
+fn order_of(seed: Option<u64>) -> Order
+    ensures { result ≡ order_by seed }
 {
-    let _processes = plan.size();
-    kt_plans::progress_of_runs();
-    kt_plans::steps_of_runs();
-    kt_plans::never_stuck();
-    kt_plans::told_of_runs();
-    kt_run::one_run();
-    kt_scenario::steps_are_read_back();
-    live_recorded_run_of(rt, alloc, plan, cast)
+    match seed {
+        None => Order::Default,
+        Some(seed) => Order::Drawn(seed),
+    }
 }
 
 // Writes the log of a run, then its certificates, then its steps, where that is asked, then its report.
@@ -306,18 +190,20 @@ fn write_recorded<W: Write, R: Write>(
     ensures written { OnOk result (WritesRun plan.now log.now.rows
         (told_by W.contents outputs.old (R.contents out.old)).run
         (told_by W.contents outputs.new (R.contents out.new)).run) }
-    ensures steps { OnOk result (WritesSteps plan.now steps.now (contents_of W.contents outputs.old.kept.output)
-        (contents_of W.contents outputs.new.kept.output)) }
-    ensures stopped { IfErr result (StopsRecording
-        (λ made rows. (made ≡ steps.now) × (rows ≡ log.now.rows)) plan.now
+    // The steps that are written are those of the run; they are the ones that are listed, if there is a file for them.
+    ensures steps { (made : List Steps) → AreListed (keep_for outputs.old.kept) steps.now made →
+        OnOk result (WritesSteps plan.now made (contents_of W.contents outputs.old.kept)
+        (contents_of W.contents outputs.new.kept)) }
+    ensures stopped { (made : List Steps) → AreListed (keep_for outputs.old.kept) steps.now made →
+        IfErr result (StopsRecording (λ moves rows. (moves ≡ made) × (rows ≡ log.now.rows)) plan.now
         (told_by W.contents outputs.old (R.contents out.old)) (told_by W.contents outputs.new (R.contents out.new))) }
     ensures writing { IfErr result IsOfRecording }
 {
     no_message_is_lost();
-    write_csv(alloc, log, &mut outputs.log.output)?;
+    write_csv(alloc, log, &mut outputs.log)?;
     let certificates = certificates_of_run(alloc, log)?;
-    write_certs(alloc, certificates.as_slice(), &mut outputs.cert.output)?;
-    write_made(alloc, plan, steps, &mut outputs.kept.output)?;
+    write_certs(alloc, certificates.as_slice(), &mut outputs.cert)?;
+    write_made(alloc, plan, steps, &mut outputs.kept)?;
     report_of_run(alloc, plan, log, certificates.as_slice(), out)?;
     Ok(())
 }
@@ -330,12 +216,14 @@ fn write_made<S: Write>(
     steps: &[Step],
     writer: &mut Output<S>,
 ) -> Result<(), AppFault>
-    ensures written { OnOk result (WritesSteps plan.now steps.now (contents_of S.contents writer.old)
-        (contents_of S.contents writer.new)) }
-    ensures long { IfErr result (λ fault. fault ≡ app.RecordTooLong → (most_steps < length steps.now)
+    ensures written { (made : List Steps) → AreListed (keep_for writer.old) steps.now made →
+        OnOk result (WritesSteps plan.now made (contents_of S.contents writer.old) (contents_of S.contents writer.new)) }
+    ensures long { (made : List Steps) → AreListed (keep_for writer.old) steps.now made →
+        IfErr result (λ fault. fault ≡ app.RecordTooLong → (most_steps < length made)
         × (contents_of S.contents writer.new ≡ contents_of S.contents writer.old)) }
-    ensures stopped { IfErr result (λ fault. IsOfWriting fault → WritesFront (contents_of S.contents writer.old)
-        (contents_of S.contents writer.new) (steps_text plan.now.names steps.now)) }
+    ensures stopped { (made : List Steps) → AreListed (keep_for writer.old) steps.now made →
+        IfErr result (λ fault. IsOfWriting fault → WritesFront (contents_of S.contents writer.old)
+        (contents_of S.contents writer.new) (steps_text plan.now.names made)) }
     ensures fault { IfErr result IsOfRecording }
 {
     let Output::File(file) = writer else {

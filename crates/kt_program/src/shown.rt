@@ -33,6 +33,11 @@ impl Shown {
         self.length == 0
     }
 
+    /// So many bytes of its front; none where fewer are kept.
+    pub(crate) fn front(&self, length: usize) -> &[u8] {
+        self.bytes.get(..length).unwrap_or(b"")
+    }
+
     /// Adds a text at the end, as far as there is room.
     pub(crate) fn push(&mut self, text: &[u8]) {
         for byte in text {
@@ -48,17 +53,11 @@ impl Shown {
 impl fmt::Display for Shown {
     fn fmt<W: fmt::Write>(&self, f: &mut fmt::Formatter<W>) -> fmt::Result {
         for byte in self.bytes.iter().take(self.length) {
-            write_byte(f, *byte)?;
+            match byte {
+                b' '..=b'~' => f.write_char(char::from(*byte))?,
+                _ => write!(f, "\\x{byte:02X}")?,
+            }
         }
         Ok(())
-    }
-}
-
-// Writes a byte as it is shown.
-fn write_byte<W: fmt::Write>(f: &mut fmt::Formatter<W>, byte: u8) -> fmt::Result {
-    if matches!(byte, b' '..=b'~') {
-        f.write_char(char::from(byte))
-    } else {
-        write!(f, "\\x{byte:02X}")
     }
 }

@@ -42,9 +42,7 @@ where
     F::File: AsRawFd,
     ensures { IfSome result (λ file. IfSome (F.File.raw_fd file) (λ number. number ≤ℤ pos 2)) }
 {
-    let Ok(file) = fs::open(files, STAND_IN) else {
-        return None;
-    };
+    let file = fs::open(files, STAND_IN).ok()?;
     if file.as_raw_fd() > LAST_STREAM {
         return None;
     }

@@ -1,6 +1,6 @@
 //! What a person is told of a fault, gathered where it is met.
 
-use crate::forms::{Form, Limit, field_at, form_of, limit_of};
+use crate::forms::{Limit, field_at, limit_of};
 use crate::places::line_of;
 use crate::shown::Shown;
 use arrayvec::ArrayString;
@@ -11,11 +11,12 @@ use std::alloc::Global;
 use std::fmt::Write;
 use std::io;
 
-/// A line of a file, by its number, from 1.
+/// A line of a file, by its number, from 1, and what stands there: of a record its fields, joined by commas.
 #[derive(Clone, Copy)]
 pub struct Place {
     pub(crate) file: Shown,
     pub(crate) line: u64,
+    pub(crate) text: Shown,
 }
 
 /// What is done with a file.
@@ -30,12 +31,10 @@ pub enum Attempt {
 /// A record of a log or of certificates, as it was read.
 #[derive(Clone, Copy)]
 pub struct ToldRecord {
-    /// Its fields, joined by commas.
-    pub(crate) text: Shown,
-    /// How many they are.
+    /// How many bytes its first field has.
+    pub(crate) first: usize,
+    /// How many fields it has.
     pub(crate) fields: usize,
-    /// What a record is to be that begins as it does.
-    pub(crate) form: Form,
     /// What a number of it goes beyond.
     pub(crate) beyond: Option<Limit>,
 }
@@ -51,12 +50,10 @@ pub enum Told {
     OneFile(Shown, Shown),
     /// What was done with a file in vain, its name, and the system's reason.
     Attempt(Attempt, Shown, Shown),
-    /// A line of a text.
-    Line(Place, Shown),
+    /// A line of a text, and what stands in the way of the step that it says.
+    Line(Place, Option<Hindrance>),
     /// A record of a log or of certificates.
     Record(Place, ToldRecord),
-    /// A step that is not enabled, and what stands in its way.
-    Step(Place, Shown, Option<Hindrance>),
 }
 
 impl Told {
@@ -86,55 +83,37 @@ impl Told {
         Told::OneFile(Shown::of(first.as_bytes()), Shown::of(second.as_bytes()))
     }
 
-    /// What was done in vain with a file of this name, and why that failed.
+    /// What was done in vain with a file of this name, and the system's reason, without its number.
     pub(crate) fn attempt(attempt: Attempt, name: Shown, error: &io::Error) -> Told {
-        Told::Attempt(attempt, name, reason_of(error))
+        let mut text: ArrayString<128> = ArrayString::new();
+        let _ = write!(text, "{error}");
+        let words = text.as_str();
+        let reason = words
+            .split_once(" (os error ")
+            .map_or(words, |(reason, _number)| reason);
+        Told::Attempt(attempt, name, Shown::of(reason.as_bytes()))
     }
 
-    /// The line of this number, from 1, of the text of a file.
-    pub(crate) fn line(file: Shown, text: &[u8], number: Option<usize>) -> Told {
+    /// The line of this number, from 1, of the text of a file, and what stands in the way of the step that it says.
+    pub(crate) fn line(
+        file: Shown,
+        text: &[u8],
+        number: Option<usize>,
+        hindrance: Option<Hindrance>,
+    ) -> Told {
         let Some(number) = number else {
             return Told::Nothing;
         };
-        match text
-            .split(|byte| *byte == b'\n')
-            .nth(number.saturating_sub(1))
-        {
-            Some(line) => Told::Line(
-                Place {
-                    file,
-                    line: number as u64,
-                },
-                Shown::of(unended(line)),
-            ),
-            None => Told::Nothing,
-        }
-    }
-
-    /// The record of a file that was read last and ends here; messages have numbers up to this one.
-    pub(crate) fn record(file: Shown, fields: &ByteRecord, end: Position, last: u32) -> Told {
-        Told::Record(
-            Place {
-                file,
-                line: line_of(fields, end),
-            },
-            ToldRecord {
-                text: joined(fields),
-                fields: fields.len(),
-                form: form_of(field_at(fields, 0)),
-                beyond: limit_of(fields, last),
-            },
-        )
-    }
-
-    /// The record of a log in a file that says this row.
-    pub(crate) fn row(file: Shown, record: &Record, row: u32) -> Told {
-        let is_named = match record.fields.position() {
-            Some(start) => start.record >= u64::from(row),
-            None => false,
+        let mut lines = text.split(|byte| *byte == b'\n');
+        let Some(line) = lines.nth(number.saturating_sub(1)) else {
+            return Told::Nothing;
         };
-        let last = if is_named { 16_777_216 } else { 1_048_576 };
-        Told::record(file, &record.fields, record.end, last)
+        let place = Place {
+            file,
+            line: number as u64,
+            text: Shown::of(line.strip_suffix(b"\r".as_slice()).unwrap_or(line)),
+        };
+        Told::Line(place, hindrance)
     }
 
     /// The step after so many others of a text of steps, and what stands in its way.
@@ -144,61 +123,53 @@ impl Told {
         done: usize,
         hindrance: Option<Hindrance>,
     ) -> Told {
-        let mut before = done;
-        for (count, line) in text.split(|byte| *byte == b'\n').enumerate() {
-            if !has_words(line) {
-                continue;
-            }
-            if before == 0 {
-                let place = Place {
-                    file,
-                    line: (count as u64).saturating_add(1),
-                };
-                return Told::Step(place, Shown::of(unended(line)), hindrance);
-            }
-            before -= 1;
-        }
-        Told::Nothing
+        let lines = text.split(|byte| *byte == b'\n').enumerate();
+        let step = lines.filter(|(_, line)| has_words(line)).nth(done);
+        let number = step.map(|(before, _line)| before.saturating_add(1));
+        Told::line(file, text, number, hindrance)
     }
-}
 
-// The system's reason, without its number.
-fn reason_of(error: &io::Error) -> Shown {
-    let mut text: ArrayString<128> = ArrayString::new();
-    let _ = write!(text, "{error}");
-    let words = text.as_str();
-    match words.split_once(" (os error ") {
-        Some((reason, _number)) => Shown::of(reason.as_bytes()),
-        None => Shown::of(words.as_bytes()),
+    /// The record of a file that was read last and ends here; messages have numbers up to this one.
+    pub(crate) fn record(file: Shown, fields: &ByteRecord, end: Position, last: u32) -> Told {
+        let place = Place {
+            file,
+            line: line_of(fields, end),
+            text: joined(fields),
+        };
+        let record = ToldRecord {
+            first: field_at(fields, 0).len(),
+            fields: fields.len(),
+            beyond: limit_of(fields, last),
+        };
+        Told::Record(place, record)
+    }
+
+    /// The record of a log in a file that says this row.
+    pub(crate) fn row(file: Shown, record: &Record, row: u32) -> Told {
+        let start = record.fields.position();
+        let is_named = start.is_some_and(|start| start.record >= u64::from(row));
+        let last = if is_named { 16_777_216 } else { 1_048_576 };
+        Told::record(file, &record.fields, record.end, last)
     }
 }
 
 // The fields of a record joined by commas, as they are shown.
 fn joined(fields: &ByteRecord) -> Shown {
     let mut text = Shown::new();
-    for place in 0..fields.len() {
+    for (place, field) in fields.iter().enumerate() {
         if place > 0 {
             text.push(b",");
         }
-        text.push(field_at(fields, place));
+        text.push(field);
     }
     text
 }
 
-// A line without the carriage return that may stand before its line feed.
-fn unended(line: &[u8]) -> &[u8] {
-    match line.strip_suffix(b"\r".as_slice()) {
-        Some(words) => words,
-        None => line,
-    }
-}
-
 // Whether a line has words that are no comment.
 fn has_words(line: &[u8]) -> bool {
-    for byte in line {
-        if !matches!(*byte, b' ' | b'\t') {
-            return *byte != b'#' && *byte != b'\r';
-        }
+    let mut bytes = line.iter();
+    match bytes.find(|byte| !matches!(**byte, b' ' | b'\t')) {
+        Some(first) => !matches!(*first, b'#' | b'\r'),
+        None => false,
     }
-    false
 }

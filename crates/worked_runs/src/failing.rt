@@ -1,19 +1,21 @@
 //! Runs of the program whose writers, or readers, fail at each of their calls in turn.
 //!
 //! A line says which one: `out` or `err`, and behind it a command line; or `log`, `cert`, `scenario` or `steps`, and behind it
-//! what is done with two texts and their files, as `check log.csv cert.csv`.
+//! what is done with two texts and their files, as `check log.csv cert.csv`; or `report`, and behind it the files of a scenario,
+//! of a log and of certificates, of which the report is written.
 
 use crate::answers::judged;
 use crate::commands::{Host, add_words, value_of};
 use crate::papers::Paper;
 use crate::plans::word;
 use crate::sources::FailingReader;
-use kt_draw::Span;
-use kt_plan::Names;
-use kt_program::{
-    Done, ProgramFault, Words, draw_bytes, draw_certified_bytes, end, read_scenario, read_steps,
-    run_words,
-};
+use kt_chain::{Certificate, read_certs};
+use kt_draw::{Span, draw_certified, draw_stream};
+use kt_log_text::read_csv;
+use kt_plan::{Names, Plan};
+use kt_program::{AppFault, Done, ProgramFault, Words, end, read_scenario, read_steps, run_words};
+use kt_report::report;
+use kt_spacetime::SpaceTime;
 use std::alloc::Global;
 use std::io::Write;
 use std::{fs, io};
@@ -62,9 +64,9 @@ struct Texts<'a> {
 
 // Draws a log, as the program tells of it.
 fn drawn(alloc: Global, log: FailingReader, out: &mut Paper) -> Result<Done, ProgramFault> {
-    match draw_bytes(alloc, log, &Names::new(alloc), WHOLE, out) {
-        Ok(()) => Ok(Done::Drawn),
-        Err(fault) => Err(ProgramFault::App(fault)),
+    match draw_stream(alloc, log, &Names::new(alloc), WHOLE) {
+        Ok(text) => write_picture(text.as_slice(), out),
+        Err(fault) => Err(ProgramFault::App(AppFault::from(fault))),
     }
 }
 
@@ -75,10 +77,26 @@ fn drawn_with(
     cert: FailingReader,
     out: &mut Paper,
 ) -> Result<Done, ProgramFault> {
-    match draw_certified_bytes(alloc, log, cert, &Names::new(alloc), WHOLE, out) {
-        Ok(()) => Ok(Done::Drawn),
-        Err(fault) => Err(ProgramFault::App(fault)),
+    let log = match read_csv(alloc, log) {
+        Ok(log) => log,
+        Err(fault) => return Err(ProgramFault::App(AppFault::Log(fault))),
+    };
+    let list = match read_certs(alloc, cert) {
+        Ok(list) => list,
+        Err(fault) => return Err(ProgramFault::App(AppFault::Cert(fault))),
+    };
+    match draw_certified(alloc, &log, list.as_slice(), &Names::new(alloc), WHOLE) {
+        Ok(text) => write_picture(text.as_slice(), out),
+        Err(fault) => Err(ProgramFault::App(AppFault::from(fault))),
     }
+}
+
+// Writes a picture.
+fn write_picture(text: &[u8], out: &mut Paper) -> Result<Done, ProgramFault> {
+    if out.write_all(text).is_err() || out.flush().is_err() {
+        return Err(ProgramFault::App(AppFault::Write));
+    }
+    Ok(Done::Drawn)
 }
 
 // Reads a scenario, and steps of it.
@@ -126,14 +144,46 @@ impl Texts<'_> {
     }
 }
 
-// What fails: the writer of a command line's answer, or that of its fault's line; or the reader of the first text or of the
-// second one.
+// A stored run, of which a report is written.
+#[derive(Drop)]
+struct Stored {
+    plan: Plan,
+    log: SpaceTime,
+    certificates: Vec<Certificate>,
+}
+
+impl Stored {
+    // Writes its report where the writer fails at a call.
+    fn report_at(&self, alloc: Global, call: usize) -> Written {
+        let mut paper = Paper::new(alloc, call);
+        let outcome = match report(
+            alloc,
+            &self.plan,
+            &self.log,
+            self.certificates.as_slice(),
+            &mut paper,
+        ) {
+            Ok(()) => Ok(Done::Played),
+            Err(fault) => Err(ProgramFault::App(AppFault::from(fault))),
+        };
+        let mut other = Paper::new(alloc, usize::MAX);
+        Written {
+            status: end(outcome, &mut other),
+            paper,
+            other,
+        }
+    }
+}
+
+// What fails: the writer of a command line's answer, or that of its fault's line; the reader of the first text or of the
+// second one; or the writer of a report.
 #[derive(Drop)]
 enum Case<'a> {
     Answer(&'a Words),
     FaultLine(&'a Words),
     First(&'a Texts<'a>),
     Second(&'a Texts<'a>),
+    Report(&'a Stored),
 }
 
 // Does what a command line asks where the writer of its answer fails at a call.
@@ -168,13 +218,14 @@ impl Case<'_> {
             Case::FaultLine(words) => line_at(rt, words, call),
             Case::First(texts) => texts.read_at(rt.alloc(), call, usize::MAX),
             Case::Second(texts) => texts.read_at(rt.alloc(), usize::MAX, call),
+            Case::Report(stored) => stored.report_at(rt.alloc(), call),
         }
     }
 
     // Makes the run that takes all that may be taken before a call that fails: nothing, where a reader does.
     fn whole<R: Host>(&self, rt: &R) -> Written {
         match self {
-            Case::Answer(_) | Case::FaultLine(_) => self.at(rt, usize::MAX),
+            Case::Answer(_) | Case::FaultLine(_) | Case::Report(_) => self.at(rt, usize::MAX),
             Case::First(_) | Case::Second(_) => self.at(rt, 0),
         }
     }
@@ -242,12 +293,26 @@ fn show_files<R: Host>(rt: &R, stream: &str, line: &str) -> io::Result<()> {
     show_reads(rt, stream, &texts)
 }
 
+// Shows the report of the run in the files of a line where its writer fails.
+fn show_report<R: Host>(rt: &R, line: &str) -> io::Result<()> {
+    let scenario = fs::read(rt, word(line, 0))?;
+    let log = fs::read(rt, word(line, 1))?;
+    let cert = fs::read(rt, word(line, 2))?;
+    let stored = Stored {
+        plan: value_of(read_scenario(rt.alloc(), scenario.as_slice()))?,
+        log: value_of(read_csv(rt.alloc(), log.as_slice()))?,
+        certificates: value_of(read_certs(rt.alloc(), cert.as_slice()))?,
+    };
+    show_case(rt, &Case::Report(&stored))
+}
+
 /// Shows how the run of a line ends at each call of what fails; what is handed over in the end is left in a file.
 pub(crate) fn show_failing<R: Host>(rt: &R, words: &str) -> io::Result<()> {
     println!(rt; "fails {words}")?;
     let (stream, line) = words.split_once(' ').unwrap_or((words, ""));
     match stream {
         "out" | "err" => show_writes(rt, stream, line),
+        "report" => show_report(rt, line),
         _ => show_files(rt, stream, line),
     }
 }

@@ -1,4 +1,6 @@
 use Rattle.kt_program.proofs.ask.check_command.Goals as goal
 
 pub returns : goal.returns
-returns c = c.with_hints.ensures _ (c.with_arg-command-2.ensures _ _ (c.with_arg-command.ensures _ _ c.log_command-command.ensures c.wanted_word.ensures) c.switch.ensures)
+returns c =
+    let cert = c.with_arg-command.ensures _ _ (c.command_of-command.ensures _ c.wanted.ensures) c.wanted-2.ensures in
+    c.with_hints.ensures _ (c.with_arg-command-2.ensures _ _ cert c.switch.ensures)

@@ -1,14 +1,11 @@
-use Rattle.std.proofs.Common.{rules, ◌≡◌, List, ℕ, sym, subst}
+use Rattle.std.proofs.Common.{List, ℕ, subst}
 use Rattle.kt_scenario.specs.Steps.{IsFirstStepFault}
-use Rattle.kt_program.specs.Inputs.{IsStepsRefusal}
-use Rattle.kt_program.proofs.Reading.{steps_refused}
+use Rattle.kt_program.proofs.Reading.{step_fault_of_whole}
 use Rattle.kt_program.proofs.inputs.steps_of.Goals as goal
 
-pub returns-in-Err-parse_steps-clause-fault : goal.returns-in-Err-parse_steps-clause-fault
-returns-in-Err-parse_steps-clause-fault g c =
-    let told = g.R.Read.remaining c.args.input.now.source in
+pub returns-clause-fault : goal.returns-clause-fault
+returns-clause-fault g c =
     let names = c.args.plan.now.names in
-    let text = c.in-Ok.text.items in
-    let same : c.as_slice.result.now ≡ text = search rules in
-    subst (IsStepsRefusal told names) (sym c.steps_fault.ensures)
-    (steps_refused told names text c.in-Err-parse_steps.fault c.in-Ok.ensures (λ other. subst (λ (t : List ℕ). IsFirstStepFault names t c.in-Err-parse_steps.fault) same (c.in-Err-parse_steps.ensures.fault other)))
+    let fault = c.in-Err.fault in
+    let first = subst (λ (t : List ℕ). IsFirstStepFault names t fault) c.as_slice.ensures.value (c.in-Err.ensures.fault c.in_default.not-Memory) in
+    (c.in_default.not-Memory, step_fault_of_whole (g.R.Read.remaining c.args.input.now.source) names c.in_ok-text.text.items fault c.in_ok-text.ensures.text first)

@@ -1,18 +1,9 @@
-use Rattle.std.proofs.lemmas.Result.{err_from_is_err_and}
-use Rattle.kt_program.proofs.NewObjects.{object_of_run, step_of_run, untold_of_run}
+use Rattle.std.proofs.Common.{◌∙◌, refl, sym}
+use Rattle.kt_program.proofs.NewObjects.{object_of_run, step_of_run}
 use Rattle.kt_program.proofs.played.play_plan.Goals as goal
 
-pub returns-in_err-log-clause-refused : goal.returns-in_err-log-clause-refused
-returns-in_err-log-clause-refused g c =
-    let p = err_from_is_err_and c.from_residual.result c.from_residual.ensures.1 in
-    rw (p.1, p.2) (λ done why e. c.in_err-log.ensures.refused done why (step_of_run c.in_err-log.field-0.0 done why e))
+pub returns-in-Err-clause-refused : goal.returns-in-Err-clause-refused
+returns-in-Err-clause-refused g c = λ done why e. c.in-Err.ensures.default_refused refl done why (step_of_run c.in-Err.stop.fault done why (sym c.from.ensures ∙ e))
 
-pub returns-in_err-log-clause-object : goal.returns-in_err-log-clause-object
-returns-in_err-log-clause-object g c =
-    let p = err_from_is_err_and c.from_residual.result c.from_residual.ensures.1 in
-    rw (p.1, p.2) (λ q e. c.in_err-log.ensures.object q (object_of_run c.in_err-log.field-0.0 q e))
-
-pub returns-in_err-log-clause-untold : goal.returns-in_err-log-clause-untold
-returns-in_err-log-clause-untold g c =
-    let p = err_from_is_err_and c.from_residual.result c.from_residual.ensures.1 in
-    rw (p.1, p.2) (λ q e. c.in_err-log.ensures.untold q (untold_of_run c.in_err-log.field-0.0 q e))
+pub returns-in-Err-clause-object : goal.returns-in-Err-clause-object
+returns-in-Err-clause-object g c = λ p e. c.in-Err.ensures.default_object refl p (object_of_run c.in-Err.stop.fault p (sym c.from.ensures ∙ e))

@@ -2,7 +2,7 @@ use Rattle.std.proofs.lemmas.Result.{err_from_is_err_and}
 use Rattle.kt_log_text.specs.declared.fault.LogFault.TheVariants as log
 use Rattle.kt_program.specs.Stored.{records_told}
 use Rattle.kt_program.proofs.Unread.{no_rows}
-use Rattle.kt_program.proofs.explained.read_log.Goals as goal
+use Rattle.kt_program.proofs.stored.read_log.Goals as goal
 
 pub returns-in-Ok-clause-read : goal.returns-in-Ok-clause-read
 returns-in-Ok-clause-read g c = rw c.in_ok-rows.ensures at c.in-Ok.ensures.found

@@ -2,7 +2,7 @@ use Rattle.std.proofs.lemmas.Result.{err_from_is_err_and}
 use Rattle.kt_chain.specs.declared.fault.CertTextFault.TheVariants as cert
 use Rattle.kt_program.specs.Stored.{records_told}
 use Rattle.kt_program.proofs.Unread.{no_certificates}
-use Rattle.kt_program.proofs.checked.read_certificates.Goals as goal
+use Rattle.kt_program.proofs.stored.read_certificates.Goals as goal
 
 pub returns-in_err-records-clause-fault : goal.returns-in_err-records-clause-fault
 returns-in_err-records-clause-fault g c =

@@ -1,0 +1,15 @@
+-- Files that are read.
+use Rattle.kt_log_text.specs.declared.fault.LogFault.TheVariants as log
+use Rattle.kt_chain.specs.declared.fault.CertTextFault.TheVariants as cert
+use Rattle.kt_program.specs.declared.fault.AppFault.TheVariants as app
+use Rattle.kt_program.specs.declared.fault.ProgramFault.{ProgramFault}
+use Rattle.kt_program.specs.declared.fault.ProgramFault.TheVariants as program
+use Rattle.kt_program.specs.declared.sources.Role.{Role}
+use Rattle.kt_program.specs.declared.sources.Role.TheVariants.{Scenario, Steps, Log, Certificates}
+
+-- the fault of a file that is not opened, by what it tells
+abbrev pub unread : Role → ProgramFault
+unread Scenario = program.Read
+unread Steps = program.Read
+unread Log = program.App (app.Log log.Read)
+unread Certificates = program.App (app.Cert cert.Read)
