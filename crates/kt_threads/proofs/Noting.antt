@@ -1,9 +1,11 @@
 -- What is noted of processes goes on by a step.
-use Rattle.std.proofs.Common.{arith, ◌≡◌, ◌≢◌, ◌∙◌, ◌<◌, ℕ, List, [], ◌∷◌, ◌++◌, append_assoc, append-nil, length, map, set, sym, subst, ap, refl, get_or, Bool, true, false, Result, Ok, Err}
-use Rattle.std.specs.Prelude.{◌==◌, if◌then◌else◌, is_err, option_map, Option, Some, None, OnOk}
+use Rattle.std.proofs.Common.{arith, ◌≡◌, ◌≢◌, ◌∙◌, ◌<◌, ◌+◌, ℕ, List, [], ◌∷◌, ◌++◌, append_assoc, append-nil, length, map, set, sym, subst, ap, refl, get_or, Bool, true, false, Result, Ok, Err}
+use Rattle.std.specs.Prelude.{filter, ◌==◌, if◌then◌else◌, is_err, option_map, Option, Some, None, OnOk}
 use Rattle.std.proofs.lemmas.Bool.{eqb-true, eqb-false}
 use Rattle.std.proofs.lemmas.List.{map-append, map-set, length-map, length-set, get_or-map, get_or-set_same, get_or-set_other}
 use Rattle.std.proofs.lemmas.List.Elements.{filter-append}
+use Rattle.kt_errands.specs.Errands.{DoneBy, entry, errands_by}
+use Rattle.kt_errands.specs.declared.errand.Entry.{Entry}
 use Rattle.kt_plans.specs.Runs.{Move}
 use Rattle.kt_plans.specs.Steps.{process_of_step}
 use Rattle.kt_plan.specs.declared.steps.Step.{Step}
@@ -13,7 +15,7 @@ use Rattle.kt_threads.specs.Histories.{AreTheirs, AreTold, WorldHistory, made_by
 use Rattle.kt_threads.specs.Moves.{move_of}
 use Rattle.kt_threads.specs.Noted.{AreAskedBy, AreListed, AreNoted, AreToldBy, IsNotedBy, made_steps}
 use Rattle.kt_threads.specs.Turns.{IsMadeQuietly}
-use Rattle.kt_threads.specs.declared.errands.Errand.{Errand}
+use Rattle.kt_errands.specs.declared.errand.Errand.{Errand}
 use Rattle.kt_threads.specs.declared.state.Made.{Made}
 
 -- the list of a process goes on
@@ -94,32 +96,44 @@ told_more q steps made =
     go true e = ap told_of (made_here q made e)
     go false e = ap told_of (made_elsewhere q made e)
 
+-- an entry of a process is of no other one
+by_entry : (q p : ℕ) (errand : Errand) (b : Bool) → (p == q) ≡ b → errands_by q (entry p errand ∷ []) ≡ (if b then errand ∷ [] else [])
+by_entry q p errand true e = rw e refl
+by_entry q p errand false e = rw e refl
+
+by_more : (q p : ℕ) (errand : Errand) (old : List Entry) → errands_by q (old ++ entry p errand ∷ []) ≡ errands_by q old ++ (if p == q then errand ∷ [] else [])
+by_more q p errand old =
+    ap (map (λ (e : Entry). e.errand)) (filter-append (λ (e : Entry). e.by == q) old (entry p errand ∷ []))
+    ∙ (map-append (λ (e : Entry). e.errand) (filter (λ (e : Entry). e.by == q) old) (filter (λ (e : Entry). e.by == q) (entry p errand ∷ []))
+    ∙ ap (λ (l : List Errand). errands_by q old ++ l) (by_entry q p errand (p == q) refl))
+
 -- what is noted goes on so
-pub asked_next : (made : Made) (errand : Errand) (steps : List Made) (p : ℕ) (old new : List (List Errand)) → p ≡ process_of_step made.told.step
-    → errand ≡ errand_of made → is_no_errand (errand_of made) ≡ false → IsNotedBy p errand old new → AreAskedBy steps old → AreAskedBy (steps ++ made ∷ []) new
-asked_next made errand steps p old new place is busy noted asked = record { each = go }
+pub asked_next : (made : Made) (errand : Errand) (steps : List Made) (p : ℕ) (old new : List Entry) → p ≡ process_of_step made.told.step
+    → errand ≡ errand_of made → is_no_errand (errand_of made) ≡ false → new ≡ old ++ entry p errand ∷ [] → AreAskedBy steps old → AreAskedBy (steps ++ made ∷ []) new
+asked_next made errand steps p old new place is busy more asked = record { each = go }
   where
-    go : (q : ℕ) → q < length new → get_or new q [] ≡ errands_of (made_by q (steps ++ made ∷ []))
-    go q l =
-        let low : q < length old = let n = noted.count in omega (arith, l, n) in
-        let one : errand ∷ [] ≡ errands_at made = ap (λ (d : Errand). d ∷ []) is ∙ sym (if_false (is_no_errand (errand_of made)) [] (errand_of made ∷ []) busy) in
-        noted.each q low
-        ∙ (ap (λ (l : List Errand). l ++ (if p == q then errand ∷ [] else [])) (asked.each q low)
+    one : errand ∷ [] ≡ errands_at made
+    one = ap (λ (d : Errand). d ∷ []) is ∙ sym (if_false (is_no_errand (errand_of made)) [] (errand_of made ∷ []) busy)
+
+    go : (q : ℕ) → errands_by q new ≡ errands_of (made_by q (steps ++ made ∷ []))
+    go q =
+        ap (errands_by q) more ∙ (by_more q p errand old
+        ∙ (ap (λ (l : List Errand). l ++ (if p == q then errand ∷ [] else [])) (asked.each q)
         ∙ (ap (λ (k : ℕ). errands_of (made_by q steps) ++ (if k == q then errand ∷ [] else [])) place
         ∙ (ap (λ (d : List Errand). errands_of (made_by q steps) ++ (if process_of_step made.told.step == q then d else [])) one
-        ∙ sym (errands_more q steps made))))
+        ∙ sym (errands_more q steps made)))))
 
-pub none_asked_next : (made : Made) (steps : List Made) (old : List (List Errand)) → is_no_errand (errand_of made) ≡ true
-    → AreAskedBy steps old → AreAskedBy (steps ++ made ∷ []) old
-none_asked_next made steps old idle asked = record { each = go }
+pub none_asked_next : (made : Made) (steps : List Made) (asked : List Entry) → is_no_errand (errand_of made) ≡ true
+    → AreAskedBy steps asked → AreAskedBy (steps ++ made ∷ []) asked
+none_asked_next made steps asked idle asks = record { each = go }
   where
     nothing : (b : Bool) → (if b then errands_at made else []) ≡ []
     nothing true = if_true (is_no_errand (errand_of made)) [] (errand_of made ∷ []) idle
     nothing false = refl
 
-    go : (q : ℕ) → q < length old → get_or old q [] ≡ errands_of (made_by q (steps ++ made ∷ []))
-    go q l =
-        asked.each q l
+    go : (q : ℕ) → errands_by q asked ≡ errands_of (made_by q (steps ++ made ∷ []))
+    go q =
+        asks.each q
         ∙ (sym (append-nil (errands_of (made_by q steps)))
         ∙ (ap (λ (d : List Errand). errands_of (made_by q steps) ++ d) (sym (nothing (process_of_step made.told.step == q)))
         ∙ sym (errands_more q steps made)))
@@ -152,25 +166,25 @@ listed_next made steps None new e listed = rw e tt
 listed_next made steps (Some list) new e listed =
     rw e (ap (λ (l : List Step). l ++ made.told.step ∷ []) listed ∙ sym (map-append (λ (m : Made). m.told.step) steps (made ∷ [])))
 
-pub noted_next : (made : Made) (steps : List Made) (errands errands' : List (List Errand)) (told told' : List (List Told))
-    (listed listed' : Option (List Step)) (step : Step) → ((s : List Made) → AreAskedBy s errands → AreAskedBy (s ++ made ∷ []) errands')
+pub noted_next : (made : Made) (steps : List Made) (asked asked' : List Entry) (told told' : List (List Told))
+    (listed listed' : Option (List Step)) (step : Step) → ((s : List Made) → AreAskedBy s asked → AreAskedBy (s ++ made ∷ []) asked')
     → ((s : List Made) → AreToldBy s told → AreToldBy (s ++ made ∷ []) told')
     → step ≡ made.told.step → listed' ≡ option_map (λ list. list ++ step ∷ []) listed
-    → AreNoted steps errands told listed → AreNoted (steps ++ made ∷ []) errands' told' listed'
-noted_next made steps errands errands' told told' listed listed' step asks tells same more n = record {
-  asked = asks steps n.asked;
+    → AreNoted steps asked told listed → AreNoted (steps ++ made ∷ []) asked' told' listed'
+noted_next made steps asked asked' told told' listed listed' step asks tells same more n = record {
+  asks = asks steps n.asks;
   tells = tells steps n.tells;
   lists = listed_next made steps listed listed'
       (more ∙ ap (λ (s : Step). option_map (λ (list : List Step). list ++ s ∷ []) listed) same) n.lists;
 }
 
 -- a step that asked nothing, where what is told is not kept
-pub noted_quietly : (old new : WorldHistory) (step : Step) (errands : List (List Errand)) (told : List (List Told)) (listed listed' : Option (List Step))
+pub noted_quietly : (old new : WorldHistory) (step : Step) (asked : List Entry) (told : List (List Told)) (listed listed' : Option (List Step))
     → IsMadeQuietly old new step → told ≡ [] → listed' ≡ option_map (λ list. list ++ step ∷ []) listed
-    → AreNoted old.steps errands told listed → AreNoted new.steps errands told listed'
-noted_quietly old new step errands told listed listed' quiet none more n =
-    subst (λ (steps : List Made). AreNoted steps errands told listed') (sym quiet.steps) (record {
-      asked = none_asked_next quiet.made old.steps errands quiet.idle n.asked;
+    → AreNoted old.steps asked told listed → AreNoted new.steps asked told listed'
+noted_quietly old new step asked told listed listed' quiet none more n =
+    subst (λ (steps : List Made). AreNoted steps asked told listed') (sym quiet.steps) (record {
+      asks = none_asked_next quiet.made old.steps asked quiet.idle n.asks;
       tells = untold_next quiet.made old.steps told none;
       lists = listed_next quiet.made old.steps listed listed'
           (more ∙ ap (λ (s : Step). option_map (λ (list : List Step). list ++ s ∷ []) listed) (sym quiet.is)) n.lists;
@@ -181,17 +195,9 @@ at_ok (Ok x) P e h = h
 at_ok (Err x) P e h = absurd (cc (e))
 
 -- lists that are those that were noted
-pub theirs_of : {X : Type 0} (items : X → List Errand) (processes : ℕ) (steps : List Made) (asked lists xs ys : List X)
-    → AreAskedBy steps (map items asked) → xs ≡ asked → ys ≡ lists → map items xs ≡ map items ys → length ys ≡ processes
-    → AreTheirs processes steps (map items lists)
-theirs_of {X} items processes steps asked lists xs ys noted one other same count =
-    let e : map items asked ≡ map items lists = ap (λ (l : List X). map items l) (sym one) ∙ (same ∙ ap (λ (l : List X). map items l) other) in
-    let n : length (map items lists) ≡ processes = length-map lists items ∙ (ap (λ (l : List X). length l) (sym other) ∙ count) in
-    let m : length (map items asked) ≡ length (map items lists) = ap (λ (ls : List (List Errand)). length ls) e in
-    record {
-      count = n;
-      each = λ p l. ap (λ (ls : List (List Errand)). get_or ls p []) (sym e) ∙ noted.each p (omega (arith, l, n, m));
-    }
+pub theirs_of : (processes : ℕ) (steps : List Made) (asked : List Entry) (lists : List (List Errand)) → AreAskedBy steps asked → length lists ≡ processes
+    → ((p : ℕ) → p < processes → get_or lists p [] ≡ errands_by p asked) → AreTheirs processes steps lists
+theirs_of processes steps asked lists asks count same = record { count = count; each = λ p l. same p l ∙ asks.each p }
 
 pub tells_of : (processes : ℕ) (steps : List Made) (told : List (List Told)) → AreToldBy steps told → length told ≡ processes
     → AreTold processes steps told
@@ -201,3 +207,18 @@ tells_of processes steps told noted count = record { count = count; each = λ p 
 pub steps_of_moves : (steps : List Made) → map (λ (m : Move). m.step) (map move_of steps) ≡ made_steps steps
 steps_of_moves [] = refl
 steps_of_moves (made ∷ steps) = ap (λ (l : List Step). made.told.step ∷ l) (steps_of_moves steps)
+
+-- one more thread did what is noted of its process
+pub agreed_next : (done : List DoneBy) (asked : List Entry) (p : ℕ) (d : DoneBy) → p < length done → d ≡ get_or done p d → d.by ≡ p
+    → errands_by d.by asked ≡ d.errands → ((q : ℕ) → q < p → get_or (map (λ (d : DoneBy). d.errands) done) q [] ≡ errands_by q asked)
+    → (q : ℕ) → q < p + 1 → get_or (map (λ (d : DoneBy). d.errands) done) q [] ≡ errands_by q asked
+agreed_next done asked p d within at by same before q l = go (q == p) refl
+  where
+    here : get_or (map (λ (d : DoneBy). d.errands) done) p [] ≡ errands_by p asked
+    here =
+        get_or-map (λ (d : DoneBy). d.errands) done p d [] within
+        ∙ (sym (ap (λ (d : DoneBy). d.errands) at) ∙ (sym same ∙ ap (λ (k : ℕ). errands_by k asked) by))
+
+    go : (b : Bool) → (q == p) ≡ b → get_or (map (λ (d : DoneBy). d.errands) done) q [] ≡ errands_by q asked
+    go true e = subst (λ (k : ℕ). get_or (map (λ (d : DoneBy). d.errands) done) k [] ≡ errands_by k asked) (sym (eqb-true q p e)) here
+    go false e = before q (let n = eqb-false q p e in omega (arith, l, n))

@@ -20,7 +20,7 @@ use Rattle.kt_values.specs.Values.{Due, due}
 use Rattle.kt_threads.specs.Faults.{AnswersFirst, live_of_act, live_stopped_at}
 use Rattle.kt_threads.specs.Workers.{IsOfKind, HasOf, KeepsObjects, KeepsServing}
 use Rattle.kt_threads.specs.declared.faults.LiveFault.{LiveFault}
-use Rattle.kt_threads.specs.declared.faults.LiveFault.TheVariants.{Object, Journal}
+use Rattle.kt_threads.specs.declared.faults.LiveFault.TheVariants.{Object, Differ}
 use Rattle.kt_threads.specs.declared.worker.Worker.{Worker}
 
 -- of objects of which the first one is of a kind
@@ -65,8 +65,8 @@ due_kind kind d = record { object = some_kind d.object; permanent = refl; tentat
     some_kind None = tt
     some_kind (Some v) = refl
 
-not_journal : (p q : ℕ) → Some (Journal p) ≡ Some (Object q) → ⊥
-not_journal p q e = absurd (cc (e))
+not_differ : (q : ℕ) → Some Differ ≡ Some (Object q) → ⊥
+not_differ q e = absurd (cc (e))
 
 form_of : (p q : ℕ) (fault : ActFault) → Some (live_of_act p fault) ≡ Some (Object q) → fault ≡ act.Form
 form_of p q act.Unfit e = absurd (cc (e))
@@ -74,17 +74,17 @@ form_of p q act.Form e = refl
 form_of p q act.Memory e = absurd (cc (e))
 
 -- what a thread's process has after a step
-module _ {X : Type 0} {D : X → Type 0} (content_of : DynBox X Global D → Content) (may_reject : DynBox X Global D → List ℕ → Type 0) (kind : ℕ) (objects : List (DynBox X Global D)) where
-  -- which could not be noted
-  pub of_journal : (x y : Worker X D) (p : ℕ) → y.held ≡ x.held → y.fault ≡ Some (Journal p) → HasOf content_of may_reject kind objects x → HasOf content_of may_reject kind objects y
-  of_journal x y p same is has = record {
+module _ {J X : Type 0} {D : X → Type 0} (content_of : DynBox X Global D → Content) (may_reject : DynBox X Global D → List ℕ → Type 0) (kind : ℕ) (objects : List (DynBox X Global D)) where
+  -- which did not come next
+  pub of_other : (x y : Worker J X D) → y.held ≡ x.held → y.fault ≡ Some Differ → HasOf content_of may_reject kind objects x → HasOf content_of may_reject kind objects y
+  of_other x y same is has = record {
     holds = rw same has.holds;
     rejects = rw same has.rejects;
-    fault = λ q e. absurd (not_journal p q (sym is ∙ e));
+    fault = λ q e. absurd (not_differ q (sym is ∙ e));
   }
 
   -- whose acts were done
-  pub of_done : (x y : Worker X D) (acts : List Act) → y.fault ≡ x.fault
+  pub of_done : (x y : Worker J X D) (acts : List Act) → y.fault ≡ x.fault
       → ((h : Holding) → Holds h (option_map content_of x.held.present) x.held.depot → Holds (does_all h acts) (option_map content_of y.held.present) y.held.depot)
       → ((saved : List ℕ) → Any (λ b. may_reject b saved) (held_objects y.held.present y.held.spares.items) → Any (λ b. may_reject b saved) (held_objects x.held.present x.held.spares.items))
       → HasOf content_of may_reject kind objects x → HasOf content_of may_reject kind objects y
@@ -95,7 +95,7 @@ module _ {X : Type 0} {D : X → Type 0} (content_of : DynBox X Global D → Con
   }
 
   -- of whose acts one could not be done
-  pub of_refused : (x y : Worker X D) (after : Held X D) (acts : List Act) (p : ℕ) (fault : ActFault) → y.held ≡ after → y.fault ≡ Some (live_of_act p fault)
+  pub of_refused : (x y : Worker J X D) (after : Held X D) (acts : List Act) (p : ℕ) (fault : ActFault) → y.held ≡ after → y.fault ≡ Some (live_of_act p fault)
       → (count : ℕ) → ((h : Holding) → Holds h (option_map content_of x.held.present) x.held.depot → Holds (does_all h (take count acts)) (option_map content_of after.present) after.depot)
       → (fault ≡ act.Form → (h : Holding) → Holds h (option_map content_of x.held.present) x.held.depot → IsRejected may_reject (held_objects x.held.present x.held.spares.items) h acts)
       → ((saved : List ℕ) → Any (λ b. may_reject b saved) (held_objects after.present after.spares.items) → Any (λ b. may_reject b saved) (held_objects x.held.present x.held.spares.items))
@@ -115,13 +115,13 @@ module _ {X : Type 0} {D : X → Type 0} (content_of : DynBox X Global D → Con
       }
 
 -- a thread that ends
-pub ended_keeps : {X : Type 0} {D : X → Type 0} (content_of : DynBox X Global D → Content) (may_reject : DynBox X Global D → List ℕ → Type 0) (x y : Worker X D)
+pub ended_keeps : {J X : Type 0} {D : X → Type 0} (content_of : DynBox X Global D → Content) (may_reject : DynBox X Global D → List ℕ → Type 0) (x y : Worker J X D)
     (fault : LiveFault) → y.fault ≡ Some fault → KeepsObjects x y content_of may_reject → KeepsServing x y content_of may_reject
 ended_keeps content_of may_reject x y fault is keeps = (λ first s going. absurd (cc (sym is ∙ going)), λ all s going. absurd (cc (sym is ∙ going)), keeps)
 
 -- the process whose thread ended by an object's fault
-module _ {X : Type 0} {D : X → Type 0} (content_of : DynBox X Global D → Content) (may_reject : DynBox X Global D → List ℕ → Type 0) where
-  has_first : (cast : List Content) (worker : Worker X D) (p : ℕ) → HoldsDue cast [] p (belongings_of content_of worker.held) → worker.fault ≡ None
+module _ {J X : Type 0} {D : X → Type 0} (content_of : DynBox X Global D → Content) (may_reject : DynBox X Global D → List ℕ → Type 0) where
+  has_first : (cast : List Content) (worker : Worker J X D) (p : ℕ) → HoldsDue cast [] p (belongings_of content_of worker.held) → worker.fault ≡ None
       → HasOf content_of may_reject (first_of cast).kind (held_objects worker.held.present worker.held.spares.items) worker
   has_first cast worker p due_to going = record {
     holds = (holding_of (first_of cast).kind (due (rules_of (first_of cast)) (done []) p), due_to.holds, due_kind (first_of cast).kind (due (rules_of (first_of cast)) (done []) p));
@@ -129,7 +129,7 @@ module _ {X : Type 0} {D : X → Type 0} (content_of : DynBox X Global D → Con
     fault = λ q e. absurd (cc (sym going ∙ e));
   }
 
-  rejected_at : (cast_at : ℕ → List Content) (place : ℕ → ℕ) (ss ts : List (Worker X D))
+  rejected_at : (cast_at : ℕ → List Content) (place : ℕ → ℕ) (ss ts : List (Worker J X D))
       → ((i : ℕ) (b : Belongings) → slice_get (has_of (map (λ s. s.held) ss) content_of) i ≡ Some b → HoldsDue (cast_at i) [] (place i) b)
       → All (λ s. s.fault ≡ None) ss → AllZip (λ s t. KeepsServing s t content_of may_reject) ss ts
       → (i p : ℕ) → slice_index_or (map (λ t. t.fault) ts) i None ≡ Some (Object p)
@@ -143,7 +143,7 @@ module _ {X : Type 0} {D : X → Type 0} (content_of : DynBox X Global D → Con
   rejected_at cast_at place (s ∷ ss) (t ∷ ts) due_to going works (suc i) p e =
       rejected_at (λ n. cast_at (suc n)) (λ n. place (suc n)) ss ts (λ j b f. due_to (suc j) b f) (All-tail (λ x. x.fault ≡ None) s ss going) works.1 i p e
 
-  pub rejected_in_thread : (cast : List (List Content)) (helds : List (Held X D)) (ss ts : List (Worker X D)) → map (λ s. s.held) ss ≡ helds
+  pub rejected_in_thread : (cast : List (List Content)) (helds : List (Held X D)) (ss ts : List (Worker J X D)) → map (λ s. s.held) ss ≡ helds
       → HoldDue cast [] (has_of helds content_of) → All (λ s. s.fault ≡ None) ss → AllZip (λ s t. KeepsServing s t content_of may_reject) ss ts
       → (p : ℕ) → slice_index_or (map (λ t. t.fault) ts) p None ≡ Some (Object p)
       → MayReject may_reject (first_of (slice_index_or cast p [])).kind (slice_index_or (objects_held helds) p [])

@@ -15,7 +15,7 @@ use Rattle.kt_plan.specs.declared.steps.Look.TheVariants as look
 use Rattle.kt_run.specs.Objects.{Belongings, belongings_of, has_of, AreLeft}
 use Rattle.kt_threads.specs.Errands.{errand_of}
 use Rattle.kt_threads.specs.Workers.{IsServed, AreServed, KeepsServing, AllServed}
-use Rattle.kt_threads.specs.declared.errands.Errand.{Errand}
+use Rattle.kt_errands.specs.declared.errand.Errand.{Errand}
 use Rattle.kt_threads.specs.declared.worker.Worker.{Worker}
 use Rattle.kt_threads.specs.declared.state.Made.{Made}
 use Rattle.kt_threads.proofs.Asking.{noted_body}
@@ -83,31 +83,31 @@ module _ {X : Type 0} {D : X → Type 0} (content_of : DynBox X Global D → Con
       (served_next errands errand first (belongings_of content_of x) (belongings_of content_of y) served s)
 
 -- one after the other
-pub keeps_then : {X : Type 0} {D : X → Type 0} (content_of : DynBox X Global D → Content) (may_reject : DynBox X Global D → List ℕ → Type 0) (a b c : Worker X D)
+pub keeps_then : {J X : Type 0} {D : X → Type 0} (content_of : DynBox X Global D → Content) (may_reject : DynBox X Global D → List ℕ → Type 0) (a b c : Worker J X D)
     → KeepsServing a b content_of may_reject → KeepsServing b c content_of may_reject → KeepsServing a c content_of may_reject
 keeps_then content_of may_reject a b c k m = (λ first s. m.0 first (k.0 first s), λ all s. m.1 all (k.1 all s), λ kind objects s. m.2 kind objects (k.2 kind objects s))
 
 -- what workers that have made nothing yet come to
-module _ {X : Type 0} {D : X → Type 0} (content_of : DynBox X Global D → Content) (may_reject : DynBox X Global D → List ℕ → Type 0) where
-  all_served : (ss ts : List (Worker X D)) → All (λ s. s.errands.items ≡ []) ss → AllZip (λ s t. KeepsServing s t content_of may_reject) ss ts → All (λ t. t.fault ≡ None) ts
-      → AllServed (map (λ s. belongings_of content_of s.held) ss) (map (λ t. t.errands.items) ts) (map (λ t. belongings_of content_of t.held) ts)
+module _ {J X : Type 0} {D : X → Type 0} (content_of : DynBox X Global D → Content) (may_reject : DynBox X Global D → List ℕ → Type 0) where
+  all_served : (ss ts : List (Worker J X D)) → All (λ s. s.done.errands ≡ []) ss → AllZip (λ s t. KeepsServing s t content_of may_reject) ss ts → All (λ t. t.fault ≡ None) ts
+      → AllServed (map (λ s. belongings_of content_of s.held) ss) (map (λ t. t.done.errands) ts) (map (λ t. belongings_of content_of t.held) ts)
   all_served [] [] fresh works all = tt
   all_served [] (t ∷ ts) fresh works all = absurd works
   all_served (s ∷ ss) [] fresh works all = absurd works
   all_served (s ∷ ss) (t ∷ ts) fresh works all =
       let first = belongings_of content_of s.held in (
-        works.0.0 first (λ _. subst (λ (l : List Errand). AreServed first l first) (sym (All-head (λ x. x.errands.items ≡ []) s ss fresh)) refl)
+        works.0.0 first (λ _. subst (λ (l : List Errand). AreServed first l first) (sym (All-head (λ x. x.done.errands ≡ []) s ss fresh)) refl)
             (All-head (λ x. x.fault ≡ None) t ts all),
-        all_served ss ts (All-tail (λ x. x.errands.items ≡ []) s ss fresh) works.1 (All-tail (λ x. x.fault ≡ None) t ts all),
+        all_served ss ts (All-tail (λ x. x.done.errands ≡ []) s ss fresh) works.1 (All-tail (λ x. x.fault ≡ None) t ts all),
       )
 
-  pub all_served_of : (olds news : List (Held X D)) (lists : List (List Errand)) (ss ts : List (Worker X D))
-      → map (λ s. s.held) ss ≡ olds → news ≡ map (λ t. t.held) ts → lists ≡ map (λ t. t.errands.items) ts
-      → All (λ s. s.errands.items ≡ []) ss → AllZip (λ s t. KeepsServing s t content_of may_reject) ss ts → All (λ t. t.fault ≡ None) ts
+  pub all_served_of : (olds news : List (Held X D)) (lists : List (List Errand)) (ss ts : List (Worker J X D))
+      → map (λ s. s.held) ss ≡ olds → news ≡ map (λ t. t.held) ts → lists ≡ map (λ t. t.done.errands) ts
+      → All (λ s. s.done.errands ≡ []) ss → AllZip (λ s t. KeepsServing s t content_of may_reject) ss ts → All (λ t. t.fault ≡ None) ts
       → AllServed (has_of olds content_of) lists (has_of news content_of)
   all_served_of olds news lists ss ts was are have fresh works all =
-      let has : Worker X D → Belongings = λ s. belongings_of content_of s.held in
-      let held : Worker X D → Held X D = λ s. s.held in
+      let has : Worker J X D → Belongings = λ s. belongings_of content_of s.held in
+      let held : Worker J X D → Held X D = λ s. s.held in
       let first : map has ss ≡ has_of olds content_of = mapped (belongings_of content_of) held has (λ _. refl) ss ∙ ap (λ l. has_of l content_of) was in
       let last : map has ts ≡ has_of news content_of = mapped (belongings_of content_of) held has (λ _. refl) ts ∙ ap (λ l. has_of l content_of) (sym are) in
       subst (λ (l : List Belongings). AllServed l lists (has_of news content_of)) first
@@ -115,7 +115,7 @@ module _ {X : Type 0} {D : X → Type 0} (content_of : DynBox X Global D → Con
       (subst (λ (l : List (List Errand)). AllServed (map has ss) l (map has ts)) (sym have)
       (all_served ss ts fresh works all)))
 
-  all_left : (ss ts : List (Worker X D)) → AllZip (λ s t. KeepsServing s t content_of may_reject) ss ts → All (λ t. t.fault ≡ None) ts
+  all_left : (ss ts : List (Worker J X D)) → AllZip (λ s t. KeepsServing s t content_of may_reject) ss ts → All (λ t. t.fault ≡ None) ts
       → AllZip (λ g h. AreLeft g.spares.items h.spares.items) (map (λ s. s.held) ss) (map (λ t. t.held) ts)
   all_left [] [] works all = tt
   all_left [] (t ∷ ts) works all = absurd works
@@ -125,7 +125,7 @@ module _ {X : Type 0} {D : X → Type 0} (content_of : DynBox X Global D → Con
     all_left ss ts works.1 (All-tail (λ x. x.fault ≡ None) t ts all),
   )
 
-  pub all_left_of : (olds news : List (Held X D)) (ss ts : List (Worker X D)) → map (λ s. s.held) ss ≡ olds → news ≡ map (λ t. t.held) ts
+  pub all_left_of : (olds news : List (Held X D)) (ss ts : List (Worker J X D)) → map (λ s. s.held) ss ≡ olds → news ≡ map (λ t. t.held) ts
       → AllZip (λ s t. KeepsServing s t content_of may_reject) ss ts → All (λ t. t.fault ≡ None) ts
       → AllZip (λ g h. AreLeft g.spares.items h.spares.items) olds news
   all_left_of olds news ss ts was are works all =

@@ -1,10 +1,11 @@
 -- What is noted of steps: of processes, in a list for each, and of all of them, in one list.
 use Rattle.std.specs.Prelude.{◌≡◌, ◌<◌, ◌==◌, ℕ, List, [], ◌∷◌, ◌++◌, Option, IfSome, length, map, slice_index_or, if◌then◌else◌}
+use Rattle.kt_errands.specs.Errands.{errands_by}
+use Rattle.kt_errands.specs.declared.errand.Entry.{Entry}
 use Rattle.kt_plan.specs.declared.steps.Step.{Step}
 use Rattle.kt_plan.specs.declared.steps.Told.{Told}
 use Rattle.kt_threads.specs.Errands.{errands_of}
 use Rattle.kt_threads.specs.Histories.{made_by, told_to}
-use Rattle.kt_threads.specs.declared.errands.Errand.{Errand}
 use Rattle.kt_threads.specs.declared.state.Made.{Made}
 
 -- the list of one process goes on by this, if it has one, and those of the others stay
@@ -12,9 +13,9 @@ pub record IsNotedBy {X : Type 0} (p : ℕ) (item : X) (old new : List (List X))
   pub count : length new ≡ length old
   pub each : (q : ℕ) → q < length old → slice_index_or new q [] ≡ slice_index_or old q [] ++ (if p == q then item ∷ [] else [])
 
--- each process that has a list has there what its own steps asked of its object
-pub record AreAskedBy (steps : List Made) (errands : List (List Errand)) : Type 0 where
-  pub each : (p : ℕ) → p < length errands → slice_index_or errands p [] ≡ errands_of (made_by p steps)
+-- in a history each process has what its own steps asked of its object
+pub record AreAskedBy (steps : List Made) (asked : List Entry) : Type 0 where
+  pub each : (p : ℕ) → errands_by p asked ≡ errands_of (made_by p steps)
 
 -- each process that has a list has there what its own steps told
 pub record AreToldBy (steps : List Made) (told : List (List Told)) : Type 0 where
@@ -29,7 +30,7 @@ abbrev pub AreListed : List Made → Option (List Step) → Type 0
 AreListed steps listed = IfSome listed (λ list. list ≡ made_steps steps)
 
 -- all three
-pub record AreNoted (steps : List Made) (errands : List (List Errand)) (told : List (List Told)) (listed : Option (List Step)) : Type 0 where
-  pub asked : AreAskedBy steps errands
+pub record AreNoted (steps : List Made) (asked : List Entry) (told : List (List Told)) (listed : Option (List Step)) : Type 0 where
+  pub asks : AreAskedBy steps asked
   pub tells : AreToldBy steps told
   pub lists : AreListed steps listed

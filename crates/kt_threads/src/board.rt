@@ -1,15 +1,17 @@
 //! The lock, and what each thread does at it.
 
-ghost use Rattle.std.specs.Prelude.{◌≡◌, ◌≢◌, ◌↔◌, IfSome, IsTrue};
+ghost use Rattle.std.specs.Prelude.{◌≡◌, ◌≢◌, ◌↔◌, [], IfSome, IsTrue};
+ghost use Rattle.kt_errands.specs.Errands.{entry};
 ghost use Rattle.kt_plans.specs.Steps.{process_of_step};
+ghost use Rattle.kt_threads.specs.Errands.{errand_of};
 ghost use Rattle.kt_threads.specs.Turns.{HasStep, IsOver};
 
-use crate::errands::errand_for;
 use crate::faults::LiveFault;
 use crate::minutes::{MOST_IN_ONE_HOLD, Minutes, Notes, Noting};
 use crate::state::{Acted, State};
 use kt_base::{Memory, ProcNo};
 use kt_core::Ready;
+use kt_errands::{Naming, Receipt, Recorder};
 use kt_plan::{Give, Look, Plan, Step};
 use std::alloc::Global;
 use std::sync::{Mutex, Wait};
@@ -17,11 +19,11 @@ use std::thread::Parker;
 
 /// What comes next for a process.
 #[derive(Drop)]
-pub(crate) enum Next {
+pub(crate) enum Next<J: Naming> {
     /// Its object is asked for what its next step needs.
     Ask(Step, Look),
-    /// Its step was made.
-    Made(Acted),
+    /// Its step was made, and what it asked of its object is noted, where that is something.
+    Made(Acted, Option<Receipt<J>>),
     /// Another step comes next by now.
     Again,
     /// All is done, or a fault ended it.
@@ -38,15 +40,22 @@ enum Whom {
 
 /// Minutes under a lock, and for each process the news that it can make a step, or that all is over.
 #[derive(Drop)]
-pub(crate) struct Board {
-    minutes: Mutex<Minutes>,
+pub(crate) struct Board<J: Naming> {
+    minutes: Mutex<Minutes<J>>,
     news: Vec<Parker>,
 }
 
-impl Board {
+impl<J: Naming> Board<J> {
     /// A board of a plan, of which nothing is done, with what is noted of its steps.
-    pub(crate) fn new(alloc: Global, plan: &Plan, noting: Noting) -> Result<Board, Memory> {
-        let notes = Notes::of(alloc, plan.size(), noting)?;
+    pub(crate) fn new(
+        alloc: Global,
+        plan: &Plan,
+        noting: Noting,
+        asked: Recorder<J>,
+    ) -> Result<Board<J>, Memory>
+        requires { asked ≡ [] }
+    {
+        let notes = Notes::of(alloc, plan.size(), noting, asked)?;
         let news = news_of(alloc, plan.size())?;
         let state = State::new(alloc, plan.copy(alloc)?)?;
         Ok(Board {
@@ -57,10 +66,12 @@ impl Board {
 
     /// Waits until a process can make a step, or all is over. Its steps that need nothing of its object are made, up to the
     /// first one that asks something of it.
-    pub(crate) fn advance<R: Wait>(&self, rt: &R, me: ProcNo) -> Next
-        ensures sends { (made : _) → result ≡ Next.Made made → made.look ≢ Look.NeedsBody }
-        ensures saves { (made : _) → result ≡ Next.Made made → made.look ≢ Look.NeedsSave }
-        ensures own { (made : _) → result ≡ Next.Made made → process_of_step made.told.step ≡ me }
+    pub(crate) fn advance<R: Wait>(&self, rt: &R, me: ProcNo) -> Next<J>
+        ensures sends { (made : _) (noted : _) → result ≡ Next.Made made noted → made.look ≢ Look.NeedsBody }
+        ensures saves { (made : _) (noted : _) → result ≡ Next.Made made noted → made.look ≢ Look.NeedsSave }
+        ensures own { (made : _) (noted : _) → result ≡ Next.Made made noted → process_of_step made.told.step ≡ me }
+        ensures noted { (made : _) (noted : _) → result ≡ Next.Made made noted → IfSome noted (λ receipt.
+            receipt ≡ entry (process_of_step made.told.step) (errand_of made)) }
     {
         let Some(news) = self.news.get(me.index()) else {
             return Next::End;
@@ -94,11 +105,13 @@ impl Board {
         step: Step,
         look: Look,
         give: Give,
-    ) -> Next
-        ensures look { (made : _) → result ≡ Next.Made made → made.look ≡ look }
-        ensures give { (made : _) → result ≡ Next.Made made → made.give ≡ give }
-        ensures step { (made : _) → result ≡ Next.Made made → made.told.step ≡ step }
-        ensures own { (made : _) → result ≡ Next.Made made → process_of_step step ≡ me }
+    ) -> Next<J>
+        ensures look { (made : _) (noted : _) → result ≡ Next.Made made noted → made.look ≡ look }
+        ensures give { (made : _) (noted : _) → result ≡ Next.Made made noted → made.give ≡ give }
+        ensures step { (made : _) (noted : _) → result ≡ Next.Made made noted → made.told.step ≡ step }
+        ensures own { (made : _) (noted : _) → result ≡ Next.Made made noted → process_of_step step ≡ me }
+        ensures noted { (made : _) (noted : _) → result ≡ Next.Made made noted → IfSome noted (λ receipt.
+            receipt ≡ entry (process_of_step made.told.step) (errand_of made)) }
     {
         let mut minutes = self.minutes.lock(rt);
         if minutes.state().fault().is_some() {
@@ -141,7 +154,7 @@ impl Board {
     }
 
     /// What lay under the lock.
-    pub(crate) fn into_minutes(self) -> Minutes {
+    pub(crate) fn into_minutes(self) -> Minutes<J> {
         let Board { minutes, news: _ } = self;
         minutes.into_inner()
     }
@@ -158,7 +171,7 @@ fn news_of(alloc: Global, processes: usize) -> Result<Vec<Parker>, Memory> {
 
 /// Whom one calls who leaves the lock: a process that sleeps though it can make a step, unless another thread is at the lock or
 /// on its way there; and all of them where all is over.
-fn called(minutes: &mut Minutes) -> Whom {
+fn called<J: Naming>(minutes: &mut Minutes<J>) -> Whom {
     if !minutes.state().is_over() {
         if let Some(p) = minutes.call() {
             return Whom::One(p);
@@ -179,7 +192,7 @@ fn must_wait(state: &State, me: ProcNo) -> bool
 }
 
 /// Whether nothing comes next for a process by now.
-fn is_nothing(next: &Next) -> bool {
+fn is_nothing<J: Naming>(next: &Next<J>) -> bool {
     matches!(next, Next::Again)
 }
 
@@ -191,11 +204,19 @@ fn is_for(ready: &Ready, step: Step, look: Look) -> bool
 }
 
 /// Makes the step for which a process's object was asked, if it still comes next and needs the same.
-fn make_asked(minutes: &mut Minutes, me: ProcNo, step: Step, look: Look, give: Give) -> Next
-    ensures look { (made : _) → result ≡ Next.Made made → made.look ≡ look }
-    ensures give { (made : _) → result ≡ Next.Made made → made.give ≡ give }
-    ensures step { (made : _) → result ≡ Next.Made made → made.told.step ≡ step }
-    ensures own { (made : _) → result ≡ Next.Made made → process_of_step step ≡ me }
+fn make_asked<J: Naming>(
+    minutes: &mut Minutes<J>,
+    me: ProcNo,
+    step: Step,
+    look: Look,
+    give: Give,
+) -> Next<J>
+    ensures look { (made : _) (noted : _) → result ≡ Next.Made made noted → made.look ≡ look }
+    ensures give { (made : _) (noted : _) → result ≡ Next.Made made noted → made.give ≡ give }
+    ensures step { (made : _) (noted : _) → result ≡ Next.Made made noted → made.told.step ≡ step }
+    ensures own { (made : _) (noted : _) → result ≡ Next.Made made noted → process_of_step step ≡ me }
+    ensures noted { (made : _) (noted : _) → result ≡ Next.Made made noted → IfSome noted (λ receipt.
+        receipt ≡ entry (process_of_step made.told.step) (errand_of made)) }
 {
     let Some(ready) = minutes.ready(me) else {
         return Next::Again;
@@ -207,10 +228,12 @@ fn make_asked(minutes: &mut Minutes, me: ProcNo, step: Step, look: Look, give: G
 }
 
 /// Makes a process's next step, if it needs nothing of its object.
-fn make_next(minutes: &mut Minutes, me: ProcNo) -> Next
-    ensures sends { (made : _) → result ≡ Next.Made made → made.look ≢ Look.NeedsBody }
-    ensures saves { (made : _) → result ≡ Next.Made made → made.look ≢ Look.NeedsSave }
-    ensures own { (made : _) → result ≡ Next.Made made → process_of_step made.told.step ≡ me }
+fn make_next<J: Naming>(minutes: &mut Minutes<J>, me: ProcNo) -> Next<J>
+    ensures sends { (made : _) (noted : _) → result ≡ Next.Made made noted → made.look ≢ Look.NeedsBody }
+    ensures saves { (made : _) (noted : _) → result ≡ Next.Made made noted → made.look ≢ Look.NeedsSave }
+    ensures own { (made : _) (noted : _) → result ≡ Next.Made made noted → process_of_step made.told.step ≡ me }
+    ensures noted { (made : _) (noted : _) → result ≡ Next.Made made noted → IfSome noted (λ receipt.
+        receipt ≡ entry (process_of_step made.told.step) (errand_of made)) }
 {
     let Some(ready) = minutes.ready(me) else {
         return if minutes.state().is_over() {
@@ -232,19 +255,21 @@ fn make_next(minutes: &mut Minutes, me: ProcNo) -> Next
 }
 
 /// Whether a process's next step was made, and asked nothing of its object.
-fn is_done(next: &Next) -> bool {
+fn is_done<J: Naming>(next: &Next<J>) -> bool {
     match next {
-        Next::Made(made) => errand_for(made).is_none(),
+        Next::Made(_, noted) => noted.is_none(),
         Next::Ask(..) | Next::Again | Next::End => false,
     }
 }
 
 /// Makes a process's steps, up to the first one that asks something of its object, or that can't be made yet, and at most so
 /// many that others don't wait long.
-fn go_on(minutes: &mut Minutes, me: ProcNo) -> Next
-    ensures sends { (made : _) → result ≡ Next.Made made → made.look ≢ Look.NeedsBody }
-    ensures saves { (made : _) → result ≡ Next.Made made → made.look ≢ Look.NeedsSave }
-    ensures own { (made : _) → result ≡ Next.Made made → process_of_step made.told.step ≡ me }
+fn go_on<J: Naming>(minutes: &mut Minutes<J>, me: ProcNo) -> Next<J>
+    ensures sends { (made : _) (noted : _) → result ≡ Next.Made made noted → made.look ≢ Look.NeedsBody }
+    ensures saves { (made : _) (noted : _) → result ≡ Next.Made made noted → made.look ≢ Look.NeedsSave }
+    ensures own { (made : _) (noted : _) → result ≡ Next.Made made noted → process_of_step made.told.step ≡ me }
+    ensures noted { (made : _) (noted : _) → result ≡ Next.Made made noted → IfSome noted (λ receipt.
+        receipt ≡ entry (process_of_step made.told.step) (errand_of made)) }
 {
     for _ in 0..MOST_IN_ONE_HOLD {
         minutes.take_all_quietly(me);

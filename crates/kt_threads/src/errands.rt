@@ -1,21 +1,15 @@
 //! What steps ask of their process's object, and whether threads did what was noted of their processes.
 
-ghost use Rattle.std.specs.Prelude.{◌≡◌, ◌↔◌, true, false, [], ◌∷◌, ◌++◌, map, length, IfSome, IfNone, IsTrue, OnOk};
+ghost use Rattle.std.specs.Prelude.{◌≡◌, ◌<◌, true, false, [], ◌∷◌, ◌++◌, ℕ, map, length, slice_index_or, IfOk, IfSome, IfNone, OnOk};
+ghost use Rattle.kt_errands.specs.Errands.{entry, errands_by};
 ghost use Rattle.kt_plans.specs.Steps.{process_of_step};
 ghost use Rattle.kt_threads.specs.Noted.{AreAskedBy};
 ghost use Rattle.kt_threads.specs.Errands.{body_for, are_no_acts, errand_of, is_no_errand};
 
-use crate::lists::ErrandLists;
 use crate::state::Acted;
 use kt_base::{Memory, ProcNo};
+use kt_errands::{Done, Errand, Naming, Receipt, Recorder};
 use kt_plan::{Act, Look, Step};
-
-/// What a step asked of its process's object: the body that it offered, where it was asked for one, and the acts that it did.
-#[derive(Clone, Copy, Debug, PartialEq, Eq)]
-pub struct Errand {
-    pub offered: Option<i64>,
-    pub acts: [Act; 2],
-}
 
 /// Whose step it is.
 pub(crate) fn process_of(step: &Step) -> ProcNo
@@ -28,7 +22,7 @@ pub(crate) fn process_of(step: &Step) -> ProcNo
 }
 
 /// The same acts.
-pub(crate) fn copied(acts: &[Act; 2]) -> [Act; 2]
+fn copied(acts: &[Act; 2]) -> [Act; 2]
     ensures { result ≡ acts.now }
 {
     [acts[0], acts[1]]
@@ -67,65 +61,38 @@ pub(crate) fn errand_for(made: &Acted) -> Option<Errand>
     })
 }
 
-/// Notes what a step asks of its process's object.
+/// Notes what a step asks of its process's object: that it is noted, where it is something.
 #[tactic(auto, using(crate::proofs::Noting::none_asked_next, crate::proofs::Noting::asked_next))]
-pub(crate) fn note_errand(lists: &mut ErrandLists, made: &Acted) -> Result<(), Memory>
-    ensures { OnOk result ((steps : _)
-        → AreAskedBy steps lists.old → AreAskedBy (steps ++ made.now ∷ []) lists.new) }
+pub(crate) fn note_errand<J: Naming>(
+    asked: &mut Recorder<J>,
+    made: &Acted,
+) -> Result<Option<Receipt<J>>, Memory>
+    ensures asked { OnOk result ((steps : _)
+        → AreAskedBy steps asked.old → AreAskedBy (steps ++ made.now ∷ []) asked.new) }
+    ensures noted { IfOk result (λ noted. IfSome noted (λ receipt.
+        receipt ≡ entry (process_of_step made.now.told.step) (errand_of made.now))) }
 {
-    if let Some(errand) = errand_for(made) {
-        lists.note(process_of(&made.step), errand)?;
+    let Some(errand) = errand_for(made) else {
+        return Ok(None);
+    };
+    match asked.note(process_of(&made.step), errand) {
+        Some(receipt) => Ok(Some(receipt)),
+        None => Err(Memory),
     }
-    Ok(())
 }
 
-/// Whether these are the same acts.
-fn are_same_acts(one: &[Act], other: &[Act]) -> bool
-    ensures same { IsTrue result ↔ (one.now ≡ other.now) }
+/// Whether there are so many processes, and each did what is noted of it.
+pub(crate) fn all_agree<J: Naming>(processes: usize, asked: &Recorder<J>, done: &[Done<J>]) -> bool
+    ensures count { result ≡ true → length done.now ≡ processes }
+    ensures same { result ≡ true → (p : ℕ) → p < processes →
+        slice_index_or (map (λ d. d.errands) done.now) p [] ≡ errands_by p asked.now }
 {
-    if one.len() != other.len() {
-        return false;
-    }
-    for i in 0..one.len() {
-        if one[i] != other[i] {
-            return false;
-        }
-    }
-    true
-}
-
-/// Whether these are the same.
-fn is_same_errand(one: &Errand, other: &Errand) -> bool
-    ensures same { IsTrue result ↔ (one.now ≡ other.now) }
-{
-    one.offered == other.offered && are_same_acts(&one.acts, &other.acts)
-}
-
-/// Whether these are the same errands.
-fn are_same_errands(one: &[Errand], other: &[Errand]) -> bool
-    ensures same { IsTrue result ↔ (one.now ≡ other.now) }
-{
-    if one.len() != other.len() {
-        return false;
-    }
-    for i in 0..one.len() {
-        if !is_same_errand(&one[i], &other[i]) {
-            return false;
-        }
-    }
-    true
-}
-
-/// Whether there are so many processes, and each has the same in both lists.
-pub(crate) fn are_all_same(processes: usize, one: &[Vec<Errand>], other: &[Vec<Errand>]) -> bool
-    ensures count { result ≡ true → length other.now ≡ processes }
-    ensures same { result ≡ true → map (λ list. list.items) one.now ≡ map (λ list. list.items) other.now }
-{
-    if one.len() != processes || other.len() != processes {
+    if done.len() != processes {
         return false;
     }
     for p in 0..processes {
-        if !are_same_errands(one[p].as_slice(), other[p].as_slice()) {
+        let thread = &done[p];
+        if thread.me().index() != p || !asked.agrees(thread) {
             return false;
         }
     }

@@ -20,7 +20,8 @@ pub enum LiveFault {
     CastKind(ProcNo),
     /// The object of this process could not be saved at first, or could not be restored from its saved state.
     Object(ProcNo),
-    /// There was no memory to note what a step asked of the object of this process.
+    /// There was no memory to note what a step asked of the object of this process. It takes none any more, so no run ends by this;
+    /// no clause says so.
     Journal(ProcNo),
     /// A step was refused.
     Step(StepFault),

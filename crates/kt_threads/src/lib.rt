@@ -1,7 +1,7 @@
 //! Each process of a plan in a thread of its own, over one world under a lock.
 //!
 //! **What to change where:** runs in threads, and `live` `outcome.rt`, runs that are kept `recorded.rt`; the world with its steps
-//! `state.rt`; what is noted of them under the lock `minutes.rt`, `lists.rt`; the lock, and who is woken `board.rt`;
+//! `state.rt`; what is noted of them under the lock `minutes.rt`, `lists.rt`, kt_errands; the lock, and who is woken `board.rt`;
 //! one thread `worker.rt`; threads by number `spawning.rt`; what steps ask of objects, and whether all fits at the
 //! end `errands.rt`, `plans.rt`; `faults.rt`; what is proved of it `specs/Histories`, `specs/Moves`, `specs/Errands`.
 #![tactic(auto)]

@@ -1,18 +1,21 @@
 //! What lies under the lock: a state, and what is noted of the steps that led to it.
 
 ghost use Rattle.std.specs.Prelude.{◌≡◌, ◌⊎◌, ◌^◌, ◌≤◌, [], ◌∷◌, ◌++◌, true, false, None, map, option_map, IfOk, IfNone, IfSome, IsSome, IsTrue, OnOk, ◌↔◌};
+ghost use Rattle.kt_errands.specs.Errands.{entry};
 ghost use Rattle.kt_plans.specs.Steps.{process_of_step};
+ghost use Rattle.kt_threads.specs.Errands.{errand_of};
 ghost use Rattle.kt_threads.specs.Noted.{AreNoted, AreToldBy};
 ghost use Rattle.kt_threads.specs.Rows.{four_rows};
 ghost use Rattle.kt_threads.specs.Turns.{EndsBy, GoesOnQuietly, HasStep, IsMadeQuietly, IsNext, IsReadyStep};
 
 use crate::board::Next;
-use crate::errands::{Errand, note_errand, process_of};
+use crate::errands::{note_errand, process_of};
 use crate::faults::LiveFault;
-use crate::lists::{ErrandLists, StepList, ToldLists};
+use crate::lists::{StepList, ToldLists};
 use crate::state::{Acted, State};
 use kt_base::{Memory, ProcNo, ProcSet};
 use kt_core::{Priority, Ready};
+use kt_errands::{Naming, Receipt, Recorder};
 use kt_plan::{Give, Step, Told};
 use kt_run::Keep;
 use std::alloc::Global;
@@ -30,24 +33,29 @@ pub(crate) enum Noting {
     Kept(Keep),
 }
 
-/// Lists for what is noted of steps.
+/// Room for what is noted of steps.
 #[derive(Drop)]
-pub(crate) struct Notes {
-    errands: ErrandLists,
+pub(crate) struct Notes<J: Naming> {
+    asked: Recorder<J>,
     told: ToldLists,
     steps: StepList,
 }
 
-impl Notes {
+impl<J: Naming> Notes<J> {
     /// For so many processes, of whose steps there was none.
     #[tactic(auto, using(crate::proofs::Noting::listed_first))]
-    pub(crate) fn of(alloc: Global, processes: usize, noting: Noting) -> Result<Notes, Memory>
-        ensures { IfOk result (λ notes. AreNoted [] notes.errands notes.told notes.steps) }
+    pub(crate) fn of(
+        alloc: Global,
+        processes: usize,
+        noting: Noting,
+        asked: Recorder<J>,
+    ) -> Result<Notes<J>, Memory>
+        requires { asked ≡ [] }
+        ensures { IfOk result (λ notes. AreNoted [] notes.asked notes.told notes.steps) }
     {
-        let errands = ErrandLists::of(alloc, processes)?;
         let told = ToldLists::of(alloc, if noting == Noting::Told { processes } else { 0 })?;
         Ok(Notes {
-            errands,
+            asked,
             told,
             steps: StepList::of(alloc, noting == Noting::Kept(Keep::Steps)),
         })
@@ -57,16 +65,16 @@ impl Notes {
 /// A state; what each process's object was asked for; and what each process was told, or all steps, where somebody asks for
 /// them. Beside these, which processes' threads sleep, and which are at the lock, or were called and are on their way.
 #[derive(Drop)]
-pub(crate) struct Minutes {
+pub(crate) struct Minutes<J: Naming> {
     state: State,
-    errands: ErrandLists,
+    asked: Recorder<J>,
     told: ToldLists,
     steps: StepList,
     asleep: ProcSet,
     coming: ProcSet,
 }
 
-impl Model for Minutes {
+impl<J: Naming> Model for Minutes<J> {
     ghost use Rattle.std.specs.Prelude.{◌≡◌, None};
     ghost use Rattle.kt_threads.specs.Histories.{WorldHistory};
     ghost use Rattle.kt_threads.specs.Noted.{AreNoted};
@@ -75,24 +83,20 @@ impl Model for Minutes {
 
     ghost view = { λ m. m.state };
 
-    ghost invariant = { λ m. m.state.fault ≡ None → AreNoted m.state.steps m.errands m.told m.steps };
+    ghost invariant = { λ m. m.state.fault ≡ None → AreNoted m.state.steps m.asked m.told m.steps };
 }
 
-impl Minutes {
+impl<J: Naming> Minutes<J> {
     /// Of a state to which no step led, with lists in which nothing is noted.
-    pub(crate) fn new(state: State, notes: Notes) -> Minutes
+    pub(crate) fn new(state: State, notes: Notes<J>) -> Minutes<J>
         requires steps { state.steps ≡ [] }
-        requires noted { AreNoted [] notes.errands notes.told notes.steps }
+        requires noted { AreNoted [] notes.asked notes.told notes.steps }
         ensures { result ≡ state }
     {
-        let Notes {
-            errands,
-            told,
-            steps,
-        } = notes;
+        let Notes { asked, told, steps } = notes;
         Minutes {
             state,
-            errands,
+            asked,
             told,
             steps,
             asleep: ProcSet::empty(),
@@ -129,16 +133,18 @@ impl Minutes {
     }
 
     /// Makes a step of which all was looked up, and notes it. Want of memory ends all.
-    pub(crate) fn make(&mut self, ready: &Ready, give: Give) -> Next
+    pub(crate) fn make(&mut self, ready: &Ready, give: Give) -> Next<J>
         requires { IsReadyStep self.old.world ready.now }
-        ensures look { (made : _) → result ≡ Next.Made made → made.look ≡ ready.now.look }
-        ensures give { (made : _) → result ≡ Next.Made made → made.give ≡ give }
-        ensures step { (made : _) → result ≡ Next.Made made → made.told.step ≡ ready.now.step }
+        ensures look { (made : _) (noted : _) → result ≡ Next.Made made noted → made.look ≡ ready.now.look }
+        ensures give { (made : _) (noted : _) → result ≡ Next.Made made noted → made.give ≡ give }
+        ensures step { (made : _) (noted : _) → result ≡ Next.Made made noted → made.told.step ≡ ready.now.step }
+        ensures noted { (made : _) (noted : _) → result ≡ Next.Made made noted → IfSome noted (λ receipt.
+            receipt ≡ entry (process_of_step made.told.step) (errand_of made)) }
         ensures end { result ≡ Next.End → EndsBy self.old ready.now.step self.new.fault }
     {
         let Minutes {
             state,
-            errands,
+            asked,
             told,
             steps,
             ..
@@ -148,12 +154,11 @@ impl Minutes {
             state.stop(LiveFault::Memory);
             return Next::End;
         };
-        let noted = note_made(errands, told, steps, state, count, &made);
-        if noted.is_err() {
+        let Ok(noted) = note_made(asked, told, steps, state, count, &made) else {
             state.stop(LiveFault::Memory);
             return Next::End;
-        }
-        Next::Made(made)
+        };
+        Next::Made(made, noted)
     }
 
     /// Takes the next parcel for a process, where that has nothing to do with its object and what it tells is not kept, and
@@ -283,47 +288,44 @@ impl Minutes {
     }
 
     /// The state, and what was noted of the steps that led to it, where there was no fault.
-    pub(crate) fn into_parts(self) -> (State, Vec<Vec<Errand>>, Vec<Vec<Told>>, Option<Vec<Step>>)
+    pub(crate) fn into_parts(self) -> (State, Recorder<J>, Vec<Vec<Told>>, Option<Vec<Step>>)
         ensures state { result.0 ≡ self }
         ensures noted { self.fault ≡ None → AreNoted self.steps
-            (map (λ list. list.items) result.1.items) (map (λ list. list.items) result.2.items)
+            result.1 (map (λ list. list.items) result.2.items)
             (option_map (λ list. list.items) result.3) }
     {
         let Minutes {
             state,
-            errands,
+            asked,
             told,
             steps,
             ..
         } = self;
-        (
-            state,
-            errands.into_lists(),
-            told.into_lists(),
-            steps.into_list(),
-        )
+        (state, asked, told.into_lists(), steps.into_list())
     }
 }
 
 /// Notes what a step asked and told, and the step itself.
 #[tactic(auto, using(crate::proofs::Noting::noted_next))]
-fn note_made(
-    errands: &mut ErrandLists,
+fn note_made<J: Naming>(
+    asked: &mut Recorder<J>,
     told: &mut ToldLists,
     steps: &mut StepList,
     state: &State,
     count: usize,
     made: &Acted,
-) -> Result<(), Memory>
+) -> Result<Option<Receipt<J>>, Memory>
     requires rows { made.now.told.rows ≡ four_rows state.now.world.system.rows.rows count }
     requires few { count ≤ 2 ^ 24 }
-    ensures { OnOk result ((before : _) → AreNoted before errands.old told.old steps.old
-        → AreNoted (before ++ made.now ∷ []) errands.new told.new steps.new) }
+    ensures all { OnOk result ((before : _) → AreNoted before asked.old told.old steps.old
+        → AreNoted (before ++ made.now ∷ []) asked.new told.new steps.new) }
+    ensures noted { IfOk result (λ noted. IfSome noted (λ receipt.
+        receipt ≡ entry (process_of_step made.now.told.step) (errand_of made.now))) }
 {
-    note_errand(errands, made)?;
+    let noted = note_errand(asked, made)?;
     note_told(told, state, count, made)?;
     steps.note(made.step)?;
-    Ok(())
+    Ok(noted)
 }
 
 /// Notes what a step told, where that is kept.

@@ -3,6 +3,7 @@
 ghost use Rattle.std.specs.List.{AllZip};
 ghost use Rattle.std.specs.Prelude.{◌≡◌, ◌≢◌, ◌⊎◌, [], ℕ, List, length, true, false, None, Some, All, map, option_map, slice_index, slice_index_or, OnOk, IfOk, IfErr, IsTrue, ◌↔◌};
 ghost use Rattle.kt_core.specs.Worlds.{IsWorldAtRest};
+ghost use Rattle.kt_errands.specs.declared.errand.Errand.{Errand};
 ghost use Rattle.kt_held.specs.Holdings.{Content, content};
 ghost use Rattle.kt_held.specs.Refusals.{IsLeastRefused};
 ghost use Rattle.kt_plans.specs.Follows.{FollowsPlan};
@@ -19,7 +20,7 @@ ghost use Rattle.kt_threads.specs.Noted.{AreListed, AreNoted, AreToldBy};
 ghost use Rattle.kt_threads.specs.Workers.{AllServed, KeepsServing};
 
 use crate::board::Board;
-use crate::errands::{Errand, are_all_same};
+use crate::errands::all_agree;
 use crate::faults::LiveFault;
 use crate::laws::laws_of_worlds;
 use crate::minutes::{Minutes, Noting};
@@ -27,23 +28,23 @@ use crate::spawning::{SpawnFault, run_all};
 use crate::state::{Acted, State};
 use crate::worker::{Worker, work};
 use kt_base::ProcNo;
+use kt_errands::{Done, Naming, Opened, Recorder};
 use kt_held::{Cast, Held, begin_all};
 use kt_object::Recoverable;
 use kt_plan::{Plan, Step, Told};
 use kt_run::Outcome;
 use kt_spacetime::SpaceTime;
 use std::alloc::Global;
+use std::marker::Brand;
 use std::snapshot::Snapshot;
 use std::sync::Wait;
 use std::thread::Threads;
 
-/// A run that ended at rest: its log, its steps, and what those of each process asked of its object; and what they told it,
-/// and a list of them all, where that is noted.
+/// A run that ended at rest: its log, its steps, and what they told each process, and a list of them all, where that is noted.
 #[derive(Drop)]
 pub(crate) struct Lived {
     pub(crate) log: SpaceTime,
     steps: Vec<Snapshot<Acted>>,
-    asked: Vec<Vec<Errand>>,
     told: Vec<Vec<Told>>,
     pub(crate) listed: Option<Vec<Step>>,
 }
@@ -72,9 +73,14 @@ fn first_objects(alloc: Global, plan: &Plan, cast: Cast) -> Result<Vec<Held>, Li
 }
 
 /// A worker for each process.
-fn workers_of(alloc: Global, objects: Vec<Held>) -> Result<Vec<Worker>, LiveFault>
+fn workers_of<J: Naming>(
+    alloc: Global,
+    objects: Vec<Held>,
+    asked: &Recorder<J>,
+) -> Result<Vec<Worker<J>>, LiveFault>
+    requires { asked.now ≡ [] }
     ensures held { IfOk result (λ workers. map (λ worker. worker.held) workers.items ≡ objects.items) }
-    ensures fresh { IfOk result (λ workers. All (λ worker. worker.errands.items ≡ []) workers.items) }
+    ensures fresh { IfOk result (λ workers. All (λ worker. worker.done.errands ≡ []) workers.items) }
     ensures going { IfOk result (λ workers. All (λ worker. worker.fault ≡ None) workers.items) }
     ensures fault { IfErr result (λ fault. is_live_of_cast fault ≡ false) }
     ensures unnamed { IfErr result (λ fault. live_stopped_at fault ≡ None) }
@@ -85,7 +91,7 @@ fn workers_of(alloc: Global, objects: Vec<Held>) -> Result<Vec<Worker>, LiveFaul
         let Some(me) = ProcNo::new(number) else {
             return Err(LiveFault::Differ);
         };
-        if workers.push(Worker::new(alloc, me, held)).is_err() {
+        if workers.push(Worker::new(me, held, asked)).is_err() {
             return Err(LiveFault::Memory);
         }
         number = number.saturating_add(1);
@@ -94,12 +100,12 @@ fn workers_of(alloc: Global, objects: Vec<Held>) -> Result<Vec<Worker>, LiveFaul
 }
 
 /// Each process's thread makes its steps.
-fn work_all<R: Threads + Wait + Sync>(
+fn work_all<J: Naming + Send + Sync, R: Threads + Wait + Sync>(
     rt: &R,
     alloc: Global,
-    board: &Board,
-    workers: Vec<Worker>,
-) -> Result<Vec<Worker>, SpawnFault>
+    board: &Board<J>,
+    workers: Vec<Worker<J>>,
+) -> Result<Vec<Worker<J>>, SpawnFault>
     ensures { IfOk result (λ worked. AllZip (λ before after. KeepsServing before after
         (λ b. content (kind_of (b.vtable, b.value)) (value_of (b.vtable, b.value)))
         (λ b saved. may_reject (b.vtable, b.value) saved)) workers.items worked.items) }
@@ -108,7 +114,7 @@ fn work_all<R: Threads + Wait + Sync>(
         rt,
         alloc,
         workers,
-        &|worker: Worker| -> Worker
+        &|worker: Worker<J>| -> Worker<J>
             ensures { KeepsServing worker result
                 (λ b. content (kind_of (b.vtable, b.value)) (value_of (b.vtable, b.value)))
                 (λ b saved. may_reject (b.vtable, b.value) saved) }
@@ -117,15 +123,19 @@ fn work_all<R: Threads + Wait + Sync>(
     )
 }
 
-/// The run of the plan that ended at rest, or the fault that ended it.
-fn finish(minutes: Minutes, plan: &Plan, workers: &[Worker]) -> Result<Lived, LiveFault>
-    ensures run { IfOk result (λ lived.
-        IsWholeHistory plan.entry.now (map (λ step. step.value) lived.steps.items) lived.log.rows) }
-    ensures noted { IfOk result (λ lived. AreNoted (map (λ step. step.value) lived.steps.items)
-        (map (λ list. list.items) lived.asked.items) (map (λ list. list.items) lived.told.items)
-        (option_map (λ list. list.items) lived.listed)) }
-    ensures promised { IfOk result (λ lived. IsPromised lived.log.rows) }
-    ensures follows { IfOk result (λ lived. FollowsPlan plan.entry.now lived.log.rows) }
+/// The run of the plan that ended at rest, and what its steps asked; or the fault that ended it.
+fn finish<J: Naming>(
+    minutes: Minutes<J>,
+    plan: &Plan,
+    workers: &[Worker<J>],
+) -> Result<(Lived, Recorder<J>), LiveFault>
+    ensures run { IfOk result (λ r.
+        IsWholeHistory plan.entry.now (map (λ step. step.value) r.0.steps.items) r.0.log.rows) }
+    ensures noted { IfOk result (λ r. AreNoted (map (λ step. step.value) r.0.steps.items)
+        r.1 (map (λ list. list.items) r.0.told.items)
+        (option_map (λ list. list.items) r.0.listed)) }
+    ensures promised { IfOk result (λ r. IsPromised r.0.log.rows) }
+    ensures follows { IfOk result (λ r. FollowsPlan plan.entry.now r.0.log.rows) }
     ensures fault { IfErr result (λ fault. is_live_of_cast fault ≡ false) }
     ensures named { IfErr result (λ fault. (p : ℕ) → live_stopped_at fault ≡ Some p →
         slice_index_or (map (λ worker. worker.fault) workers.entry.now) p None ≡ Some fault) }
@@ -136,32 +146,34 @@ fn finish(minutes: Minutes, plan: &Plan, workers: &[Worker]) -> Result<Lived, Li
     }
 }
 
-/// A run that ended at rest.
-fn run_of(minutes: Minutes) -> Lived
+/// A run that ended at rest, and what its steps asked.
+fn run_of<J: Naming>(minutes: Minutes<J>) -> (Lived, Recorder<J>)
     requires going { minutes.fault ≡ None }
     requires rest { IsWorldAtRest minutes.world }
-    ensures log { result.log ≡ minutes.world.system.rows }
+    ensures log { result.0.log ≡ minutes.world.system.rows }
     ensures run { IsWholeHistory minutes.world.agenda.plan
-        (map (λ step. step.value) result.steps.items) result.log.rows }
-    ensures noted { AreNoted (map (λ step. step.value) result.steps.items)
-        (map (λ list. list.items) result.asked.items) (map (λ list. list.items) result.told.items)
-        (option_map (λ list. list.items) result.listed) }
-    ensures promised { IsPromised result.log.rows }
+        (map (λ step. step.value) result.0.steps.items) result.0.log.rows }
+    ensures noted { AreNoted (map (λ step. step.value) result.0.steps.items)
+        result.1 (map (λ list. list.items) result.0.told.items)
+        (option_map (λ list. list.items) result.0.listed) }
+    ensures promised { IsPromised result.0.log.rows }
 {
     let (state, asked, told, listed) = minutes.into_parts();
     let (log, steps) = state.into_parts();
-    Lived {
-        log,
-        steps,
+    (
+        Lived {
+            log,
+            steps,
+            told,
+            listed,
+        },
         asked,
-        told,
-        listed,
-    }
+    )
 }
 
 /// The fault that is answered where this one was the first. Of the faults that name a process only one by which its thread
 /// ended is answered; and what is wrong with the objects comes from no thread.
-fn fault_of(first: LiveFault, workers: &[Worker]) -> LiveFault
+fn fault_of<J: Naming>(first: LiveFault, workers: &[Worker<J>]) -> LiveFault
     ensures fault { AnswersFirst (map (λ worker. worker.fault) workers.now) first result }
     ensures ours { is_live_of_cast result ≡ false }
 {
@@ -175,7 +187,7 @@ fn fault_of(first: LiveFault, workers: &[Worker]) -> LiveFault
 }
 
 /// Whether the thread of a process ended by this fault.
-fn has_ended(workers: &[Worker], p: ProcNo, fault: &LiveFault) -> bool
+fn has_ended<J: Naming>(workers: &[Worker<J>], p: ProcNo, fault: &LiveFault) -> bool
     ensures { IsTrue result ↔ (slice_index_or (map (λ worker. worker.fault) workers.now) p None ≡ Some fault.now) }
 {
     match workers.get(p.index()) {
@@ -185,7 +197,7 @@ fn has_ended(workers: &[Worker], p: ProcNo, fault: &LiveFault) -> bool
 }
 
 /// That a run of the plan ended at rest, or the fault that ended it.
-fn ended(state: &State, plan: &Plan, workers: &[Worker]) -> Result<(), LiveFault>
+fn ended<J: Naming>(state: &State, plan: &Plan, workers: &[Worker<J>]) -> Result<(), LiveFault>
     ensures plan { OnOk result (state.now.world.agenda.plan ≡ plan.now) }
     ensures rest { OnOk result (IsWorldAtRest state.now.world) }
     ensures follows { OnOk result (FollowsPlan plan.now state.now.world.system.rows.rows) }
@@ -203,53 +215,50 @@ fn ended(state: &State, plan: &Plan, workers: &[Worker]) -> Result<(), LiveFault
     Ok(())
 }
 
-/// What each process's steps asked of its object, and what it holds, if all of that was done.
-fn leave(alloc: Global, workers: Vec<Worker>) -> Result<(Vec<Vec<Errand>>, Vec<Held>), LiveFault>
+/// What each process did, and what it holds, if all that was asked was done.
+fn leave<J: Naming>(
+    alloc: Global,
+    workers: Vec<Worker<J>>,
+) -> Result<(Vec<Done<J>>, Vec<Held>), LiveFault>
     ensures whole { OnOk result (All (λ worker. worker.fault ≡ None) workers.items) }
-    ensures errands { IfOk result (λ parts.
-        map (λ list. list.items) parts.0.items ≡ map (λ worker. worker.errands.items) workers.items) }
+    ensures done { IfOk result (λ parts. parts.0.items ≡ map (λ worker. worker.done) workers.items) }
     ensures held { IfOk result (λ parts. parts.1.items ≡ map (λ worker. worker.held) workers.items) }
     ensures fault { IfErr result (λ fault. is_live_of_cast fault ≡ false) }
     ensures unnamed { IfErr result (λ fault. live_stopped_at fault ≡ None) }
 {
-    let mut lists = Vec::with_capacity(alloc, workers.len())?;
+    let mut all_done = Vec::with_capacity(alloc, workers.len())?;
     let mut objects = Vec::with_capacity(alloc, workers.len())?;
     for worker in workers {
-        let Worker {
-            me: _,
-            held,
-            errands,
-            fault,
-        } = worker;
+        let Worker { held, done, fault } = worker;
         if fault.is_some() {
             return Err(LiveFault::Differ);
         }
-        if lists.push(errands).is_err() || objects.push(held).is_err() {
+        if all_done.push(done).is_err() || objects.push(held).is_err() {
             return Err(LiveFault::Memory);
         }
     }
-    Ok((lists, objects))
+    Ok((all_done, objects))
 }
 
 /// Runs a plan over what its processes hold at first, each in a thread of its own: the run, and what each process holds.
-fn work_out<R: Threads + Wait + Sync>(
+fn work_out<J: Naming + Send + Sync, R: Threads + Wait + Sync>(
     rt: &R,
     alloc: Global,
     plan: &Plan,
     objects: Vec<Held>,
     noting: Noting,
+    opened: Opened,
 ) -> Result<(Lived, Vec<Held>), LiveFault>
+    requires { opened.book ≡ J.book }
     ensures history { IfOk result (λ r.
         IsWholeHistory plan.now (map (λ step. step.value) r.0.steps.items) r.0.log.rows) }
-    ensures theirs { IfOk result (λ r. AreTheirs (length plan.now.names)
-        (map (λ step. step.value) r.0.steps.items) (map (λ list. list.items) r.0.asked.items)) }
     ensures told { IfOk result (λ r. AreToldBy
         (map (λ step. step.value) r.0.steps.items) (map (λ list. list.items) r.0.told.items)) }
     ensures listed { IfOk result (λ r. AreListed
         (map (λ step. step.value) r.0.steps.items) (option_map (λ list. list.items) r.0.listed)) }
-    ensures served { IfOk result (λ r. AllServed
-        (has_of objects.items (λ b. content (kind_of (b.vtable, b.value)) (value_of (b.vtable, b.value))))
-        (map (λ list. list.items) r.0.asked.items)
+    ensures served { IfOk result (λ r. (lists : List (List Errand))
+        × AreTheirs (length plan.now.names) (map (λ step. step.value) r.0.steps.items) lists × AllServed
+        (has_of objects.items (λ b. content (kind_of (b.vtable, b.value)) (value_of (b.vtable, b.value)))) lists
         (has_of r.1.items (λ b. content (kind_of (b.vtable, b.value)) (value_of (b.vtable, b.value))))) }
     ensures spares { IfOk result (λ r.
         AllZip (λ g h. AreLeft g.spares.items h.spares.items) objects.items r.1.items) }
@@ -262,12 +271,13 @@ fn work_out<R: Threads + Wait + Sync>(
         MayReject (λ b saved. may_reject (b.vtable, b.value) saved) (first_of (slice_index_or cast p [])).kind
         (slice_index_or (objects_held objects.items) p [])) }
 {
-    let workers = workers_of(alloc, objects)?;
-    let board = Board::new(alloc, plan, noting)?;
+    let asked = Recorder::<J>::new(opened);
+    let workers = workers_of(alloc, objects, &asked)?;
+    let board = Board::new(alloc, plan, noting, asked)?;
     let workers = work_all(rt, alloc, &board, workers)?;
-    let lived = finish(board.into_minutes(), plan, &workers)?;
-    let (lists, objects) = leave(alloc, workers)?;
-    if !are_all_same(plan.size(), &lived.asked, &lists) {
+    let (lived, asked) = finish(board.into_minutes(), plan, &workers)?;
+    let (done, objects) = leave(alloc, workers)?;
+    if !all_agree(plan.size(), &asked, &done) {
         return Err(LiveFault::Differ);
     }
     Ok((lived, objects))
@@ -312,7 +322,7 @@ pub(crate) fn run_cast<R: Threads + Wait + Sync>(
     kt_plans::certificates_of_promised_logs();
     laws_of_worlds();
     let objects = first_objects(alloc, plan, cast)?;
-    let run = work_out(rt, alloc, plan, objects, noting)?;
+    let run = work_out::<Brand, R>(rt, alloc, plan, objects, noting, Opened::new())?;
     Ok(run)
 }
 

@@ -8,6 +8,6 @@ invariant-loop-worker g l = record {
   ends : (goal.iterator-loop-worker g).is_finite l.worker-iterator;
   split : l.yielded ++ into_iter_items l.worker-iterator ≡ l.fn.workers.items;
   whole : All (λ worker. worker.fault ≡ None) l.yielded;
-  errands : map (λ list. list.items) l.lists.items ≡ map (λ worker. worker.errands.items) l.yielded;
+  done : l.all_done.items ≡ map (λ worker. worker.done) l.yielded;
   held : l.objects.items ≡ map (λ worker. worker.held) l.yielded;
 }

@@ -11,18 +11,18 @@ use Rattle.kt_threads.proofs.outcome.run_cast.Goals as goal
 pub returns-clause-run : goal.returns-clause-run
 returns-clause-run g c =
     let ends = c.in_ok-run.ensures in
-    run_then c.laws_of_worlds.ensures c.args.plan.now _ _ ends.history _ ends.theirs _ _ ends.served _ c.in_ok-objects.ensures.due
+    run_then c.laws_of_worlds.ensures c.args.plan.now _ _ ends.history ends.served.0 ends.served.1 _ _ ends.served.2 _ c.in_ok-objects.ensures.due
 
 pub returns-clause-due : goal.returns-clause-due
 returns-clause-due g c =
     let ends = c.in_ok-run.ensures in
-    due_then c.laws_of_worlds.ensures c.args.plan.now _ _ ends.history _ ends.theirs _ _ ends.served _ c.in_ok-objects.ensures.due
+    due_then c.laws_of_worlds.ensures c.args.plan.now _ _ ends.history ends.served.0 ends.served.1 _ _ ends.served.2 _ c.in_ok-objects.ensures.due
 
 pub returns-clause-settled : goal.returns-clause-settled
 returns-clause-settled g c =
     let ends = c.in_ok-run.ensures in
     all_of_has (λ b. content ((goal.Recoverable-dyn g (b.vtable, b.value)).kind_of b.value) ((goal.Recoverable-dyn g (b.vtable, b.value)).value_of b.value)) c.in_ok-run.run'.1.items
-    (settled_then c.laws_of_worlds.ensures c.args.plan.now _ _ ends.history _ ends.theirs _ _ ends.served _ c.in_ok-objects.ensures.due)
+    (settled_then c.laws_of_worlds.ensures c.args.plan.now _ _ ends.history ends.served.0 ends.served.1 _ _ ends.served.2 _ c.in_ok-objects.ensures.due)
 
 pub returns-clause-spares : goal.returns-clause-spares
 returns-clause-spares g c =

@@ -13,6 +13,6 @@ loop-held-preserved g c =
       ends = tt;
       split = grind (arith, common_steps);
       held = rw pushed (mapped_more (λ worker. worker.held) c.loop-held.workers.items c.loop-held.yielded worker c.in-Some.held c.loop-held.invariant.held c.new-in-loop-held.ensures.held);
-      fresh = rw pushed (All-push (λ worker. worker.errands.items ≡ []) c.loop-held.workers.items worker c.loop-held.invariant.fresh c.new-in-loop-held.ensures.errands);
+      fresh = rw pushed (All-push (λ worker. worker.done.errands ≡ []) c.loop-held.workers.items worker c.loop-held.invariant.fresh c.new-in-loop-held.ensures.done);
       going = rw pushed (All-push (λ worker. worker.fault ≡ None) c.loop-held.workers.items worker c.loop-held.invariant.going c.new-in-loop-held.ensures.going);
     }

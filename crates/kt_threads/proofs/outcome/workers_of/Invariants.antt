@@ -8,6 +8,6 @@ invariant-loop-held g l = record {
   ends : (goal.iterator-loop-held g).is_finite l.held-iterator;
   split : l.yielded ++ into_iter_items l.held-iterator ≡ l.fn.objects.items;
   held : map (λ worker. worker.held) l.workers.items ≡ l.yielded;
-  fresh : All (λ worker. worker.errands.items ≡ []) l.workers.items;
+  fresh : All (λ worker. worker.done.errands ≡ []) l.workers.items;
   going : All (λ worker. worker.fault ≡ None) l.workers.items;
 }

@@ -2,4 +2,4 @@ use Rattle.kt_threads.specs.Turns.{GoesOnQuietly}
 use Rattle.kt_threads.proofs.minutes.Minutes.next_called.Given as goal
 
 abbrev pub invariant-loop : goal.invariant-loop
-invariant-loop l = GoesOnQuietly l.initial.self l.self
+invariant-loop g l = GoesOnQuietly l.initial.self l.self

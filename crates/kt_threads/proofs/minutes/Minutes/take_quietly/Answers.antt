@@ -14,11 +14,11 @@ stopped None fault e = absurd (cc (e))
 stopped (Some first) fault e = absurd (cc (e))
 
 pub invariant_of-self-2 : goal.invariant_of-self-2
-invariant_of-self-2 c = elim c.if-is_err.branch [
+invariant_of-self-2 g c = elim c.if-is_err.branch [
   | then-is_err w ↦ rw w.self-inside-is
       (λ going. stopped c.take_quietly.new.self.fault _ (ap (λ (h : WorldHistory). h.fault) (sym w.stop-then-is_err.ensures) ∙ going))
   | else-is_err w ↦ rw w.self-inside-is
-      (λ going. noted_quietly c.self.inside.state c.take_quietly.new.self c.in-Some.step c.self.inside.errands c.self.inside.told
+      (λ going. noted_quietly c.self.inside.state c.take_quietly.new.self c.in-Some.step c.self.inside.asked c.self.inside.told
       c.self.inside.steps c.note.new.self
       (subst (λ (o : Option Step). IfSome o (IsMadeQuietly c.self.inside.state c.take_quietly.new.self)) c.in-Some.is c.in-Ok.ensures.made)
       (c.are_kept.ensures c.if-are_kept.false) (at_ok c.note.result _ (sym c.is_err.ensures.value ∙ w.if-is_err.false) c.note.ensures)
