@@ -5,5 +5,4 @@ pub mod Said
 pub mod Scenario
 pub mod Steps
 pub mod Draft
-pub mod FaultTexts
 pub mod Written

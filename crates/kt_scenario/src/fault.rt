@@ -9,8 +9,7 @@ ghost use Rattle.kt_scenario.specs.Faults.{fault_at, step_fault_at};
 
 use kt_base::Memory;
 use std::alloc::{AllocError, AllocFailed};
-use std::error::Error;
-use std::fmt;
+use thiserror::Error;
 
 /// What is wrong in a line of a scenario.
 #[derive(Clone, Copy)]
@@ -64,59 +63,45 @@ impl<T: Drop> From<AllocFailed<T>> for StepLineFault {
 }
 
 /// Why a scenario was refused: the first thing wrong, with its line. Lines are numbered from 1.
-#[derive(Clone, Copy, Debug, PartialEq, Eq)]
+#[derive(Clone, Copy, Debug, PartialEq, Eq, Error)]
 pub enum ScenarioFault {
     /// The text has more than 2^20 bytes.
+    #[error("too long")]
     TooLong,
     /// The first word is none of the seven.
+    #[error("line {0}: unknown command")]
     Command(usize),
     /// The line has another number of words than its first word asks.
+    #[error("line {0}: wrong number of words")]
     Words(usize),
     /// A process can't be called so.
+    #[error("line {0}: bad name")]
     Name(usize),
     /// An earlier line declared this name.
+    #[error("line {0}: declared twice")]
     Twice(usize),
     /// There is no such kind of object.
+    #[error("line {0}: unknown kind")]
     KindWord(usize),
     /// 64 objects were declared before.
+    #[error("line {0}: too many objects")]
     TooManyObjects(usize),
     /// No earlier line declared this name.
+    #[error("line {0}: unknown name")]
     Unknown(usize),
     /// A process would send to itself.
+    #[error("line {0}: send to itself")]
     Itself(usize),
     /// The body is neither `.` nor a number within i64.
+    #[error("line {0}: bad number")]
     Number(usize),
     /// 4,096 commands came before.
+    #[error("line {0}: too many commands")]
     TooManyCommands(usize),
     /// There was no memory for the plan.
+    #[error("memory")]
     Memory,
 }
-
-impl fmt::Display for ScenarioFault {
-    ghost use Rattle.std.specs.Prelude.{Some};
-    ghost use Rattle.kt_scenario.specs.FaultTexts.{scenario_fault_text};
-
-    ghost output = { λ fault. Some (scenario_fault_text fault) };
-
-    fn fmt<W: fmt::Write>(&self, f: &mut fmt::Formatter<W>) -> fmt::Result {
-        match self {
-            ScenarioFault::TooLong => write!(f, "too long"),
-            ScenarioFault::Command(line) => write!(f, "line {line}: unknown command"),
-            ScenarioFault::Words(line) => write!(f, "line {line}: wrong number of words"),
-            ScenarioFault::Name(line) => write!(f, "line {line}: bad name"),
-            ScenarioFault::Twice(line) => write!(f, "line {line}: declared twice"),
-            ScenarioFault::KindWord(line) => write!(f, "line {line}: unknown kind"),
-            ScenarioFault::TooManyObjects(line) => write!(f, "line {line}: too many objects"),
-            ScenarioFault::Unknown(line) => write!(f, "line {line}: unknown name"),
-            ScenarioFault::Itself(line) => write!(f, "line {line}: send to itself"),
-            ScenarioFault::Number(line) => write!(f, "line {line}: bad number"),
-            ScenarioFault::TooManyCommands(line) => write!(f, "line {line}: too many commands"),
-            ScenarioFault::Memory => write!(f, "memory"),
-        }
-    }
-}
-
-impl Error for ScenarioFault {}
 
 impl ScenarioFault {
     /// The number of the line that is refused, from 1; None where the fault is in no line.
@@ -157,44 +142,30 @@ impl ScenarioFault {
 }
 
 /// Why a text of steps was refused: the first thing wrong, with its line. Lines are numbered from 1.
-#[derive(Clone, Copy, Debug, PartialEq, Eq)]
+#[derive(Clone, Copy, Debug, PartialEq, Eq, Error)]
 pub enum StepsFault {
     /// The text has more than 2^26 bytes.
+    #[error("too long")]
     TooLong,
     /// The first word is neither `do` nor `take`.
+    #[error("line {0}: unknown command")]
     Command(usize),
     /// The line has another number of words than its first word asks.
+    #[error("line {0}: wrong number of words")]
     Words(usize),
     /// The plan has no process of this name.
+    #[error("line {0}: unknown name")]
     Unknown(usize),
     /// A process would take from itself.
+    #[error("line {0}: take from itself")]
     Itself(usize),
     /// 2^20 steps came before.
+    #[error("line {0}: too many steps")]
     TooMany(usize),
     /// There was no memory for the list of steps.
+    #[error("memory")]
     Memory,
 }
-
-impl fmt::Display for StepsFault {
-    ghost use Rattle.std.specs.Prelude.{Some};
-    ghost use Rattle.kt_scenario.specs.FaultTexts.{steps_fault_text};
-
-    ghost output = { λ fault. Some (steps_fault_text fault) };
-
-    fn fmt<W: fmt::Write>(&self, f: &mut fmt::Formatter<W>) -> fmt::Result {
-        match self {
-            StepsFault::TooLong => write!(f, "too long"),
-            StepsFault::Command(line) => write!(f, "line {line}: unknown command"),
-            StepsFault::Words(line) => write!(f, "line {line}: wrong number of words"),
-            StepsFault::Unknown(line) => write!(f, "line {line}: unknown name"),
-            StepsFault::Itself(line) => write!(f, "line {line}: take from itself"),
-            StepsFault::TooMany(line) => write!(f, "line {line}: too many steps"),
-            StepsFault::Memory => write!(f, "memory"),
-        }
-    }
-}
-
-impl Error for StepsFault {}
 
 impl StepsFault {
     /// The number of the line that is refused, from 1; None where the fault is in no line.
