@@ -1,14 +1,15 @@
 -- What breaks a rule: when what is told is so, what it is against, and what is told beside it.
-use Rattle.std.specs.Prelude.{◌≡◌, ◌≤◌, ◌+◌, ◌^◌, ℕ, Bool, true, false, Option, Some, None, is_some, List, [], length, take, filter, IfSome, IfNone}
+use Rattle.std.specs.Prelude.{◌≡◌, ◌≤◌, ◌+◌, ◌^◌, ℕ, Bool, true, false, Option, Some, None, is_some, List, [], length, take, filter, slice_get, IfSome, IfNone}
 use Rattle.std.specs.List.{range_with_len}
 use Rattle.kt_base.specs.declared.words.Kind.{Kind}
 use Rattle.kt_spacetime.specs.declared.event.Event.{Event}
 use Rattle.kt_spacetime.specs.declared.event.Event.TheVariants as event
 use Rattle.kt_cuts.specs.declared.deeds.Deed.{Deed}
+use Rattle.kt_cuts.specs.declared.rules.Rule.{Rule}
 use Rattle.kt_cuts.specs.declared.traces.Trace.{Trace}
 use Rattle.kt_cuts.specs.declared.deeds.Deed.TheVariants as deed
 use Rattle.kt_cuts.specs.Past.{Past, past, kind_of, initiator_of, is_rollback, is_member}
-use Rattle.kt_cuts.specs.Legal.{IsLegal, has_begun, has_deed, is_instance, is_join, is_undelivered}
+use Rattle.kt_cuts.specs.Legal.{IsLegal, has_begun, has_deed, is_instance, is_join, is_undelivered, keeps}
 use Rattle.kt_cuts.specs.Lists.{last_of, received_in}
 use Rattle.kt_cuts.specs.Messages.{IsMessage}
 use Rattle.kt_cuts.specs.Traces.{trace_of}
@@ -18,8 +19,9 @@ use Rattle.kt_explain.specs.declared.breach.Breach.TheVariants as breach
 use Rattle.kt_explain.specs.declared.breach.Open.{Open}
 use Rattle.kt_explain.specs.declared.breach.Outside.{Outside}
 use Rattle.kt_explain.specs.declared.breach.before.Before.{Before}
+use Rattle.kt_explain.specs.declared.breach.demands.Demand.{Demand}
 use Rattle.kt_explain.specs.declared.waiting.Waiting.{Waiting}
-use Rattle.kt_explain.specs.Demands.{has_received, has_sent}
+use Rattle.kt_explain.specs.Demands.{ask_all, asks, has_received, has_sent}
 use Rattle.kt_explain.specs.Finding.{IsFirstNumber, IsFirstRow, IsLastNumber, begins_inst, closes, decides_inst, drops, fails, receives}
 
 -- the greatest message from a sender that is in a list of deeds as received
@@ -97,6 +99,16 @@ abbrev pub IsJudged : List Event → (Past → Bool) → Option Breach → Type 
 IsJudged rows demand None = demand (past rows) ≡ true
 IsJudged rows demand (Some b) = IsBreach rows demand b
 
+-- of demands that together are a rule on a row the first that is not met after these rows, and what is against it
+pub record IsFirstUnmet (rows : List Event) (rule : Rule) (row : Event) (b : Breach) : Type 0 where
+  pub demands : List Demand
+  pub are_rule : (s : Past) → ask_all demands s ≡ keeps rule s row
+  pub place : ℕ
+  pub demand : Demand
+  pub there : slice_get demands place ≡ Some demand
+  pub met : ask_all (take place demands) (past rows) ≡ true
+  pub unmet : IsBreach rows (asks demand) b
+
 -- what is known before a row: the rows before it, which are legal, and their histories
 pub record KnowsBefore (b : Before) : Type 0 where
   pub few : length b.rows.now ≤ 2 ^ 24
@@ -120,15 +132,11 @@ abbrev pub IsUndoneIn : List Event → Breach → ℕ → Type 0
 IsUndoneIn rows (breach.Undone msg p q) row = IsUndoing rows msg row
 IsUndoneIn rows b row = ⊥
 
--- the row of a log that sends a message, or that none does
-abbrev pub IsSending : List Event → ℕ → Option ℕ → Type 0
-IsSending rows msg None = (p q : ℕ) → IsMessage rows msg p q → ⊥
-IsSending rows msg (Some number) = (number ≡ msg) × (p : ℕ) × (q : ℕ) × IsMessage rows msg p q
-
 -- the row of a log that sends the message that was not sent before, begins the instance that has not begun before or decides
 -- the one that is not decided before, or that none does; nothing is told of other breaches
 abbrev pub IsLater : List Event → Breach → Option ℕ → Type 0
-IsLater rows (breach.NotSent msg) later = IsSending rows msg later
+IsLater rows (breach.NotSent msg) None = (p q : ℕ) → IsMessage rows msg p q → ⊥
+IsLater rows (breach.NotSent msg) (Some number) = (number ≡ msg) × (p : ℕ) × (q : ℕ) × IsMessage rows msg p q
 IsLater rows (breach.NotBegun k) later = IsFirstNumber (begins_inst k) rows later
 IsLater rows (breach.Undecided k) later = IsFirstNumber (decides_inst k) rows later
 IsLater rows b later = later ≡ None

@@ -8,7 +8,7 @@ use Rattle.kt_cuts.specs.Past.{Past, past}
 use Rattle.kt_cuts.specs.Cuts.{IsOrphan}
 use Rattle.kt_cuts.specs.Chains.{members}
 use Rattle.kt_checker.specs.Passing.{decided_cut}
-use Rattle.kt_cuts.specs.Legal.{is_join, keeps}
+use Rattle.kt_cuts.specs.Legal.{is_join}
 use Rattle.kt_cuts.specs.Messages.{IsMessage, row_at}
 use Rattle.kt_chain.specs.declared.certificate.Certificate.{Certificate}
 use Rattle.kt_certify.specs.Faults.{HasNoChain}
@@ -23,7 +23,7 @@ use Rattle.kt_explain.specs.declared.orphans.Orphan.{Orphan as Orphans}
 use Rattle.kt_explain.specs.declared.explanation.Explanation.{Explanation}
 use Rattle.kt_explain.specs.declared.explanation.Explanation.TheVariants.{Nothing, Judged, Objection, NoObjection, Compared, Unlinked, Orphan, BadLog}
 use Rattle.kt_explain.specs.Judged.{IsJudgedSo}
-use Rattle.kt_explain.specs.Breaches.{IsBreach, IsLater, IsUndoing, IsUndoneIn, IsWaitingAt}
+use Rattle.kt_explain.specs.Breaches.{IsFirstUnmet, IsLater, IsUndoing, IsUndoneIn, IsWaitingAt}
 use Rattle.kt_explain.specs.Compared.{IsCompared, IsOfCertificate}
 use Rattle.kt_explain.specs.Finding.{HasNoRow, IsFirstRow, IsLastNumber, IsLastRow, receives}
 
@@ -41,10 +41,6 @@ pub record IsNoOf (verdict : Verdict) (k : ℕ) : Type 0 where
   pub reason : Why
   pub verdict_is : verdict ≡ No (Some k) row reason
   pub of_certificate : IsOfCertificate reason
-
--- the same, of some instance
-abbrev pub IsCertificateNo : Verdict → Type 0
-IsCertificateNo verdict = (k : ℕ) × IsNoOf verdict k
 
 -- the least orphan of a cut
 pub record IsLeastOrphan (s : Past) (cut : ℕ → ℕ) (msg : ℕ) : Type 0 where
@@ -70,7 +66,7 @@ pub record IsOrphanTold (rows : List Event) (k : ℕ) (kind : Kind) (o : Orphans
 pub record IsBadRow (rows : List Event) (b : BadRow) (place : ℕ) (row : Event) : Type 0 where
   pub row_is : b.row ≡ place + 1
   pub there : slice_get rows place ≡ Some row
-  pub breach_is : IsBreach (take place rows) (λ s. keeps b.rule s row) b.breach
+  pub breach_is : IsFirstUnmet (take place rows) b.rule row b.breach
   pub undone : IfSome b.undone (IsUndoneIn (take place rows) b.breach)
   pub later : IsLater rows b.breach b.later
   pub waiting : IsWaitingAt (take place rows) row b.waiting
@@ -86,7 +82,7 @@ IsExplanation rows certificates verdict (NoObjection k decided) =
     (verdict ≡ No (Some k) (Some decided) why.Cause) × HasDecided rows decided k false × HasNoRow (is_unwilling k) rows
 IsExplanation rows certificates verdict (Compared c) = IsNoOf verdict c.inst × IsCompared rows certificates c
 IsExplanation rows certificates verdict (Unlinked k p joined) =
-    IsCertificateNo verdict × HasNoChain rows k p × IsLastNumber (is_join p k) rows joined
+    ((j : ℕ) × IsNoOf verdict j) × HasNoChain rows k p × IsLastNumber (is_join p k) rows joined
 IsExplanation rows certificates verdict (Orphan k orphan) =
     (n : ℕ) × (verdict ≡ No (Some k) (Some (n + 1)) why.Orphan)
     × (c : Certificate) × IsItsFirst certificates k c × IsOrphanTold (take n rows) k c.kind orphan

@@ -1,19 +1,19 @@
 //! A row that breaks a rule, as it is told, and what is told of a log that has one.
 
 ghost use Rattle.std.specs.Prelude.{◌≡◌, ◌≤◌, ◌^◌, List, None, Some, IfOk, length};
-ghost use Rattle.kt_cuts.specs.declared.rules.Rule.{Rule as Rules};
 ghost use Rattle.kt_chain.specs.declared.certificate.Certificate.{Certificate};
 ghost use Rattle.kt_checker.specs.declared.verdict.Verdict.TheVariants.{No};
 ghost use Rattle.kt_checker.specs.declared.verdict.Why.TheVariants as why;
 ghost use Rattle.kt_checker.specs.Order.{IsBadLog};
 ghost use Rattle.kt_cuts.specs.Legal.{first_broken};
 ghost use Rattle.kt_explain.specs.Told.{IsExplanation};
-ghost use Rattle.kt_explain.specs.Breaches.{IsLater, IsSending};
+ghost use Rattle.kt_explain.specs.Breaches.{IsLater};
+ghost use Rattle.kt_explain.specs.declared.breach.Breach.TheVariants as told;
 
 use crate::breach::Breach;
 use crate::breach::before::Before;
 use crate::explanation::Explanation;
-use crate::finding::{Sought, first_number};
+use crate::finding::{Sought, first_row};
 use crate::undoing::undone_in;
 use crate::waiting::Waiting;
 use kt_base::{Memory, MsgNo, RowNo};
@@ -134,15 +134,15 @@ fn later_in(rows: &[Event], breach: &Breach) -> Option<RowNo>
 {
     match *breach {
         Breach::NotSent(msg) => sending(rows, msg),
-        Breach::NotBegun(inst) => first_number(rows, &Sought::Began(inst)),
-        Breach::Undecided(inst) => first_number(rows, &Sought::Decided(inst)),
+        Breach::NotBegun(inst) => Some(first_row(rows, &Sought::Began(inst))?.number),
+        Breach::Undecided(inst) => Some(first_row(rows, &Sought::Decided(inst))?.number),
         _ => None,
     }
 }
 
 // The row that sends a message.
 fn sending(rows: &[Event], msg: MsgNo) -> Option<RowNo>
-    ensures { IsSending rows.now msg result }
+    ensures { IsLater rows.now (told.NotSent msg) result }
 {
     match rows.get(msg.index()) {
         Some(Event::Sent { .. }) => Some(RowNo::after(msg.index())),

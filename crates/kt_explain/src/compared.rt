@@ -9,7 +9,7 @@ ghost use Rattle.kt_certify.specs.Faults.{HasNoChain, IsFaultOf};
 ghost use Rattle.kt_cuts.specs.Legal.{IsLegal};
 ghost use Rattle.kt_checker.specs.declared.verdict.Verdict.{Verdict};
 ghost use Rattle.kt_explain.specs.Compared.{AreAlike, DifferAt, DifferIn, IsAlone, IsUnlikeAt, SameAt, SameHead, SameMembers, counted, IsDifference, IsFirstAt, IsOfCertificate, IsSecondAt, asks_all, asks_chains, certificate_at};
-ghost use Rattle.kt_explain.specs.Told.{IsCertificateNo, IsExplanation, IsItsFirst};
+ghost use Rattle.kt_explain.specs.Told.{IsExplanation, IsItsFirst, IsNoOf};
 
 use crate::explanation::Explanation;
 use crate::finding::{Sought, last_number};
@@ -66,7 +66,7 @@ pub(crate) fn compare(
 fn without(log: &SpaceTime, fault: CertFault) -> Result<Explanation, Memory>
     requires legal { IsLegal log.now.rows }
     requires fault { IsFaultOf log.now.rows fault }
-    ensures { IfOk result (λ e. (list : List Certificates) (verdict : Verdict) → IsCertificateNo verdict
+    ensures { IfOk result (λ e. (list : List Certificates) (verdict : Verdict) → (j : ℕ) × IsNoOf verdict j
         → IsExplanation log.now.rows list verdict e) }
 {
     match fault {
@@ -130,10 +130,7 @@ fn differing(
     let chains = asks_chains(why);
     match difference(here, there, asks_all(why), chains) {
         Some(place) => Some(Differs::Record(place, chains)),
-        None => match second_place(certificates, inst, has) {
-            Some(place) => Some(Differs::Second(place)),
-            None => None,
-        },
+        None => Some(Differs::Second(second_place(certificates, inst, has)?)),
     }
 }
 
@@ -141,20 +138,14 @@ fn differing(
 fn asks_all(why: Why) -> bool
     ensures { result ≡ asks_all why }
 {
-    match why {
-        Why::Unknown => false,
-        _ => true,
-    }
+    !matches!(why, Why::Unknown)
 }
 
 // Whether their chains count, where the members do.
 fn asks_chains(why: Why) -> bool
     ensures { result ≡ asks_chains why }
 {
-    match why {
-        Why::Members => false,
-        _ => true,
-    }
+    !matches!(why, Why::Members)
 }
 
 // The first record in which two certificates differ, of which each may be missing.
@@ -167,15 +158,10 @@ fn difference(
     ensures differ { IfSome result (DifferIn chains (option_map (λ c. c.now) here.entry) (option_map (λ c. c.now) there.entry)) }
     ensures alike { IfNone result (AreAlike all chains (option_map (λ c. c.now) here.entry) (option_map (λ c. c.now) there.entry)) }
 {
-    match here {
-        Some(here) => match there {
-            Some(there) => first_difference(here, there, all, chains),
-            None => Some(0),
-        },
-        None => match there {
-            Some(_) => Some(0),
-            None => None,
-        },
+    match (here, there) {
+        (Some(here), Some(there)) => first_difference(here, there, all, chains),
+        (None, None) => None,
+        _ => Some(0),
     }
 }
 
@@ -199,10 +185,7 @@ fn second_place(certificates: &[Certificate], inst: InstNo, first: Option<usize>
     ensures second { IfSome result (IsSecondAt certificates.now inst first) }
     ensures none { IfNone result (IsAlone certificates.now inst first) }
 {
-    match first {
-        Some(first) => place_from(certificates, inst, first + 1),
-        None => None,
-    }
+    place_from(certificates, inst, first? + 1)
 }
 
 /// The first certificate of an instance.
@@ -251,10 +234,7 @@ fn first_difference(
     if has.commit && !all {
         return None;
     }
-    match first_unlike(has.members.list(), means.members.list(), chains) {
-        Some(index) => index.checked_add(1),
-        None => None,
-    }
+    first_unlike(has.members.list(), means.members.list(), chains)?.checked_add(1)
 }
 
 // Whether the records of the instance are the same.
@@ -291,12 +271,10 @@ fn is_same_at(
 ) -> bool
     ensures { IsTrue result ↔ SameAt chains listed.now meant.now index }
 {
-    match listed.get(index) {
-        Some(here) => match meant.get(index) {
-            Some(there) => is_same(here, there, chains),
-            None => false,
-        },
-        None => meant.get(index).is_none(),
+    match (listed.get(index), meant.get(index)) {
+        (Some(here), Some(there)) => is_same(here, there, chains),
+        (None, None) => true,
+        _ => false,
     }
 }
 

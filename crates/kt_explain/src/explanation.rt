@@ -1,6 +1,6 @@
 //! What is told of an answer.
 
-ghost use Rattle.std.specs.Prelude.{◌≡◌, ◌≤◌, ◌^◌, List, Some, IfOk, length};
+ghost use Rattle.std.specs.Prelude.{◌≤◌, ◌^◌, List, Some, IfOk, length};
 ghost use Rattle.kt_chain.specs.declared.certificate.Certificate.{Certificate as Certificates};
 ghost use Rattle.kt_checker.specs.declared.verdict.Why.TheVariants as why;
 ghost use Rattle.kt_checker.specs.declared.verdict.Verdict.TheVariants.{No};

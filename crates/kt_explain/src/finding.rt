@@ -65,7 +65,7 @@ pub(crate) fn last_number(rows: &[Event], sought: &Sought) -> Option<RowNo>
 }
 
 /// The number of the first row that says what is sought.
-pub(crate) fn first_number(rows: &[Event], sought: &Sought) -> Option<RowNo>
+pub fn first_number(rows: &[Event], sought: &Sought) -> Option<RowNo>
     requires few { length rows.now ≤ 2 ^ 24 }
     ensures { IsFirstNumber (is_sought sought.now) rows.now result }
 {

@@ -1,6 +1,6 @@
 //! What is told of a log that passes: what was judged, and what it leaves open.
 
-ghost use Rattle.std.specs.Prelude.{◌≡◌, ◌≢◌, ◌≤◌, ◌<◌, ◌+◌, ◌^◌, ◌||◌, ◌↔◌, ◌++◌, not, ℕ, List, Option, Some, None, true, length, count_by, slice_get, option_to_list, Contains, IfOk, IsTrue};
+ghost use Rattle.std.specs.Prelude.{◌≡◌, ◌≢◌, ◌≤◌, ◌<◌, ◌+◌, ◌^◌, ◌||◌, ◌↔◌, not, ℕ, List, Option, Some, None, true, length, count_by, slice_get, Contains, IfOk};
 ghost use Rattle.kt_base.specs.Sets.{has};
 ghost use Rattle.kt_spacetime.specs.declared.event.Event.{Event as Events};
 ghost use Rattle.kt_cuts.specs.Past.{past};
@@ -151,15 +151,8 @@ fn count_decided(certificates: &[Certificate], kind: Kind, commit: bool) -> usiz
 {
     certificates
         .iter()
-        .filter(|c| is_decided(c, kind, commit))
+        .filter(|c| c.kind == kind && c.commit == commit)
         .count()
-}
-
-// Whether a certificate is of an instance of a kind that was decided so.
-fn is_decided(certificate: &Certificate, kind: Kind, commit: bool) -> bool
-    ensures { result ≡ is_decided kind commit certificate.now }
-{
-    certificate.kind == kind && certificate.commit == commit
 }
 
 // The open instances, in the order in which they began.
@@ -183,13 +176,7 @@ fn begun_open(histories: &Histories, row: &Event) -> Option<InstNo>
     ensures { (rows : List Events) → HistoriesOf histories.now rows → result ≡ begun_open (past rows) row.now }
 {
     match *row {
-        Event::Began { inst, .. } => {
-            if is_left_open(histories, inst) {
-                Some(inst)
-            } else {
-                None
-            }
-        }
+        Event::Began { inst, .. } if is_left_open(histories, inst) => Some(inst),
         _ => None,
     }
 }
@@ -231,13 +218,11 @@ fn told_at(histories: &Histories, insts: &[InstNo], index: usize) -> Option<Open
     ensures { (rows : List Events) → HistoriesOf histories.now rows
         → IsOpenInstance (past rows) (slice_get insts.now index) result }
 {
-    match insts.get(index) {
-        Some(inst) => Some(OpenInstance {
-            inst: *inst,
-            inside: inside(histories, *inst),
-        }),
-        None => None,
-    }
+    let inst = *insts.get(index)?;
+    Some(OpenInstance {
+        inst,
+        inside: inside(histories, inst),
+    })
 }
 
 // The processes that are in an instance.
@@ -257,10 +242,7 @@ fn inside(histories: &Histories, inst: InstNo) -> ProcSet
 fn is_in(histories: &Histories, p: ProcNo, inst: InstNo) -> bool
     ensures { (rows : List Events) → HistoriesOf histories.now rows → result ≡ is_in (past rows) p inst }
 {
-    match histories.open_in(p) {
-        Some(there) => there == inst,
-        None => false,
-    }
+    histories.open_in(p) == Some(inst)
 }
 
 // The set with this process too, if that is wanted.
@@ -290,26 +272,12 @@ fn in_transit(histories: &Histories, rows: &[Event]) -> Transit
         receivers: ProcSet::empty(),
     };
     for place in 0..rows.len() {
-        transit = with_message(&transit, receiver(histories, place, &rows[place]));
+        if let Some(to) = receiver(histories, place, &rows[place]) {
+            transit.count += 1;
+            transit.receivers = transit.receivers.with(to);
+        }
     }
     transit
-}
-
-// These messages, and perhaps one more to this process.
-fn with_message(transit: &Transit, to: Option<ProcNo>) -> Transit
-    requires few { transit.now.count < 2 ^ 24 }
-    ensures count { result.count ≡ transit.now.count + length (option_to_list to) }
-    ensures receivers { (list : List ℕ)
-        → ((q : ℕ) → has transit.now.receivers q ≡ true ↔ Contains list q)
-        → (q : ℕ) → has result.receivers q ≡ true ↔ Contains (list ++ option_to_list to) q }
-{
-    match to {
-        Some(to) => Transit {
-            count: transit.count + 1,
-            receivers: transit.receivers.with(to),
-        },
-        None => *transit,
-    }
 }
 
 // Who is to receive the message that the row at a place sent, if it is in transit.
@@ -318,16 +286,11 @@ fn receiver(histories: &Histories, place: usize, row: &Event) -> Option<ProcNo>
     ensures { (rows : List Events) → HistoriesOf histories.now rows
         → result ≡ receiver_in_transit (past rows) (place + 1) (Some row.now) }
 {
-    match *row {
-        Event::Sent { p, to, .. } => {
-            if histories.is_undelivered(to, p, MsgNo::after(place)) {
-                Some(to)
-            } else {
-                None
-            }
-        }
-        _ => None,
-    }
+    let Event::Sent { p, to, .. } = *row else {
+        return None;
+    };
+    let is_waiting = histories.is_undelivered(to, p, MsgNo::after(place));
+    is_waiting.then_some(to)
 }
 
 // The processes that are down.

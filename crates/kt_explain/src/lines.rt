@@ -13,7 +13,14 @@ use kt_spacetime::{Event, SpaceTime};
 use std::alloc::Global;
 use std::fmt;
 
-/// What is told of an answer, as lines: the row that it names, as a log has it, the facts, and the records that differ.
+/// A file by its name, and on which line of it, from 1, each of its records begins.
+#[derive(Clone, Copy)]
+pub struct Lines<'a> {
+    pub name: &'a str,
+    pub of: &'a [u64],
+}
+
+/// What is told of an answer, as lines: the row that it names and where it stands, the facts, and the records that differ.
 #[derive(Drop)]
 pub struct Told<'a> {
     pub alloc: Global,
@@ -21,14 +28,20 @@ pub struct Told<'a> {
     pub certificates: &'a [Certificate],
     pub verdict: &'a Verdict,
     pub explanation: &'a Explanation,
+    /// The file of the log, of which the last records are the rows.
+    pub rows: Lines<'a>,
+    /// The file of the certificates.
+    pub records: Lines<'a>,
 }
 
 impl fmt::Display for Told<'_> {
     fn fmt<W: fmt::Write>(&self, f: &mut fmt::Formatter<W>) -> fmt::Result {
-        let Ok(row) = row_line(self.alloc, self.log.rows(), self.verdict) else {
+        let Ok(row) = row_line(self.alloc, self.log.rows(), &self.rows, self.verdict) else {
             return Err(fmt::Error);
         };
-        let Ok(records) = record_lines(self.alloc, self.certificates, self.explanation) else {
+        let certificates = self.certificates;
+        let told = record_lines(self.alloc, certificates, &self.records, self.explanation);
+        let Ok(records) = told else {
             return Err(fmt::Error);
         };
         let explanation = self.explanation;
@@ -37,7 +50,12 @@ impl fmt::Display for Told<'_> {
 }
 
 // The line of the row that an answer names.
-fn row_line(alloc: Global, rows: &[Event], verdict: &Verdict) -> Result<String, Memory> {
+fn row_line(
+    alloc: Global,
+    rows: &[Event],
+    lines: &Lines,
+    verdict: &Verdict,
+) -> Result<String, Memory> {
     let Verdict::No {
         row: Some(number),
         ..
@@ -45,7 +63,8 @@ fn row_line(alloc: Global, rows: &[Event], verdict: &Verdict) -> Result<String, 
     else {
         return Ok(String::new(alloc));
     };
-    let Some(row) = rows.get(number.get() as usize - 1) else {
+    let before = number.get() as usize - 1;
+    let Some(row) = rows.get(before) else {
         return Ok(String::new(alloc));
     };
     let mut log = SpaceTime::new(alloc);
@@ -58,8 +77,22 @@ fn row_line(alloc: Global, rows: &[Event], verdict: &Verdict) -> Result<String, 
     let Some(row) = line_at(alloc, text.as_slice(), 1)? else {
         return Err(Memory);
     };
-    let line = format!(in alloc; "row {number}: {row}\n")?;
-    Ok(line)
+    let others = lines.of.len().saturating_sub(rows.len());
+    let (file, line) = (lines.name, line_of(lines, others + before));
+    let told = if line == u64::from(number.get()) {
+        format!(in alloc; "{file}:{line}: {row}\n")
+    } else {
+        format!(in alloc; "{file}:{line}: {row} (row {number})\n")
+    };
+    Ok(told?)
+}
+
+// The line of the record after so many others; 0 where there is none.
+fn line_of(lines: &Lines, before: usize) -> u64 {
+    match lines.of.get(before) {
+        Some(line) => *line,
+        None => 0,
+    }
 }
 
 // The line of a text after so many others.
@@ -74,6 +107,7 @@ fn line_at(alloc: Global, text: &[u8], before: usize) -> Result<Option<String>, 
 fn record_lines(
     alloc: Global,
     certificates: &[Certificate],
+    lines: &Lines,
     explanation: &Explanation,
 ) -> Result<String, Memory> {
     let Explanation::Compared(told) = explanation else {
@@ -84,7 +118,7 @@ fn record_lines(
         Differs::Record(place, _) => (told.has, place),
         Differs::Second(second) => (Some(second), 0),
     };
-    let here = has_line(alloc, certificates, inst, has, place)?;
+    let here = has_line(alloc, certificates, lines, inst, has, place)?;
     let there = record_text(alloc, told.meant.as_slice(), told.means, place)?;
     let lines = match (told.differs, &there) {
         (Differs::Second(_), _) => format!(in alloc;
@@ -105,6 +139,7 @@ fn record_lines(
 fn has_line(
     alloc: Global,
     certificates: &[Certificate],
+    lines: &Lines,
     inst: InstNo,
     index: Option<usize>,
     place: usize,
@@ -114,9 +149,10 @@ fn has_line(
         _ => None,
     };
     let line = match (record_text(alloc, certificates, index, place)?, number) {
-        (Some(text), Some(number)) => format!(in alloc;
-            "record {number} of the certificates is {text}\n"
-        ),
+        (Some(text), Some(number)) => {
+            let line = line_of(lines, number.saturating_sub(1));
+            format!(in alloc; "{}:{line}: has {text}\n", lines.name)
+        }
         (None, Some(_)) => {
             format!(in alloc; "the certificates have no more records of instance {inst}\n")
         }

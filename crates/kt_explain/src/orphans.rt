@@ -125,9 +125,8 @@ fn joining(inst: InstNo, row: &Event) -> Option<ProcNo>
     ensures { result ≡ joins inst row.now }
 {
     match *row {
-        Event::Took { p, inst: joined } | Event::Ready { p, inst: joined } => {
-            if joined == inst { Some(p) } else { None }
-        }
+        Event::Took { p, inst: joined } if joined == inst => Some(p),
+        Event::Ready { p, inst: joined } if joined == inst => Some(p),
         _ => None,
     }
 }
@@ -154,25 +153,8 @@ fn least_orphan(
     let Some(msg) = histories.first_orphan(&cut) else {
         return Ok(None);
     };
-    let undone = undone_row(alloc, histories, rows, msg)?;
+    let undone = undoing(alloc, rows, msg)?;
     Ok(told_of(rows, joined, msg, undone))
-}
-
-// The row that undid the send of a message, if it is undone.
-fn undone_row(
-    alloc: Global,
-    histories: &Histories,
-    rows: &[Event],
-    msg: MsgNo,
-) -> Result<Option<RowNo>, Memory>
-    requires few { length rows.now ≤ 2 ^ 24 }
-    requires legal { IsLegal rows.now }
-    ensures { IfOk result (λ row. IfSome row (IsUndoing rows.now msg)) }
-{
-    match histories.trace(msg) {
-        Some(trace) if trace.sent.is_none() => undoing(alloc, rows, msg),
-        _ => Ok(None),
-    }
 }
 
 // What is told of an orphan.

@@ -1,6 +1,6 @@
 //! The row that undid the send of a message.
 
-ghost use Rattle.std.specs.Prelude.{◌≡◌, ◌≤◌, ◌<◌, ◌+◌, ◌^◌, ◌&&◌, if◌then◌else◌, not, [], List, Some, IfOk, IfSome, length};
+ghost use Rattle.std.specs.Prelude.{◌≡◌, ◌≤◌, ◌^◌, List, IfOk, IfSome, length};
 ghost use Rattle.kt_spacetime.specs.declared.event.Event.{Event as Events};
 ghost use Rattle.kt_cuts.specs.Legal.{IsLegal};
 ghost use Rattle.kt_cuts.specs.Traces.{trace_of};
@@ -41,7 +41,9 @@ pub(crate) fn undoing(alloc: Global, rows: &[Event], msg: MsgNo) -> Result<Optio
         let was = is_send_live(&histories, msg);
         histories.add(&rows[place])?;
         let is = is_send_live(&histories, msg);
-        undone = undone_after(undone, was, is, place);
+        if was && !is {
+            undone = Some(RowNo::after(place));
+        }
     }
     Ok(undone)
 }
@@ -53,17 +55,5 @@ fn is_send_live(histories: &Histories, msg: MsgNo) -> bool
     match histories.trace(msg) {
         Some(trace) => trace.sent.is_some(),
         None => false,
-    }
-}
-
-// The last row that undid the send of a message, after the row at this place.
-fn undone_after(undone: Option<RowNo>, was: bool, is: bool, place: usize) -> Option<RowNo>
-    requires { place < 2 ^ 24 }
-    ensures { result ≡ (if was && not is then Some (place + 1) else undone) }
-{
-    if was && !is {
-        Some(RowNo::after(place))
-    } else {
-        undone
     }
 }

@@ -1,12 +1,10 @@
 //! What is known before a row, and whether what the rules demand of the row is so: an error tells what is against it.
 
-ghost use Rattle.std.specs.Prelude.{◌≡◌, ◌≤◌, ◌+◌, ◌^◌, ◌==◌, ℕ, not, is_none, is_some, false, [], List, Some, OnOk, IfOk, IfNone, IfSome, length};
+ghost use Rattle.std.specs.Prelude.{◌≡◌, ◌≤◌, ◌+◌, ◌^◌, ◌==◌, ℕ, not, is_none, true, false, Some, IfOk, IfNone, IfSome, length};
 ghost use Rattle.kt_base.specs.declared.words.Kind.{Kind as Kinds};
-ghost use Rattle.kt_spacetime.specs.declared.event.Event.{Event as Events};
 ghost use Rattle.kt_spacetime.specs.declared.event.Event.TheVariants as event;
 ghost use Rattle.kt_cuts.specs.Past.{Past, past, after};
 ghost use Rattle.kt_cuts.specs.Legal.{IsLegal, follows};
-ghost use Rattle.kt_histories.specs.HistoriesOf.{HistoriesOf};
 ghost use Rattle.kt_explain.specs.Breaches.{IsJudged};
 
 use crate::breach::demands::{Demand, demands};
@@ -38,7 +36,7 @@ impl Before<'_> {
     ghost use Rattle.kt_cuts.specs.Legal.{IsLegal, has_begun, is_in, is_in_none, is_instance, is_join, is_rolling, keeps};
     ghost use Rattle.kt_explain.specs.declared.breach.demands.Demand.TheVariants.{OfKind};
     ghost use Rattle.kt_explain.specs.Demands.{asks};
-    ghost use Rattle.kt_explain.specs.Breaches.{KnowsBefore, IsDecidedIn, IsJudged, IsLastIn, IsOpen};
+    ghost use Rattle.kt_explain.specs.Breaches.{KnowsBefore, IsDecidedIn, IsJudged, IsLastIn, IsFirstUnmet, IsOpen};
     ghost use Rattle.kt_explain.specs.Finding.{IsFirstRow, begins_inst};
 
     /// Those of the rows of a legal log.
@@ -49,14 +47,17 @@ impl Before<'_> {
         ensures rows { IfOk result (λ b. b.rows.now ≡ rows.now) }
     {
         let mut histories = Histories::of(alloc, &SpaceTime::new(alloc), 0)?;
-        add_all(&mut histories, rows)?;
+        for row in rows {
+            histories.add(row)?;
+        }
         Ok(Before { rows, histories })
     }
 
     /// What breaks the first demand of a rule on a row that is not met.
     pub(crate) fn broken(&self, rule: Rule, row: &Event) -> Option<Breach>
         requires before { KnowsBefore self.now }
-        ensures { IsJudged self.now.rows.now (λ s. keeps rule s row.now) result }
+        ensures unmet { IfSome result (IsFirstUnmet self.now.rows.now rule row.now) }
+        ensures kept { IfNone result (keeps rule (past self.now.rows.now) row.now ≡ true) }
     {
         for demand in &demands(rule, row) {
             if let Some(breach) = self.against(demand) {
@@ -74,8 +75,8 @@ impl Before<'_> {
         match *demand {
             Demand::Nothing => None,
             Demand::Never => Some(Breach::NoCause),
-            Demand::OtherPeer(p, peer) => other_peer(p, peer),
-            Demand::OtherCause(inst, cause) => other_cause(inst, cause),
+            Demand::OtherPeer(p, peer) => (peer == p).then_some(Breach::OwnPeer(p)),
+            Demand::OtherCause(inst, cause) => (cause == inst).then_some(Breach::OwnCause(inst)),
             Demand::Next(inst) => self.next(inst),
             Demand::Begun(inst) => self.begun(inst),
             Demand::Sent(p, from, msg) => self.sent(p, from, msg),
@@ -84,7 +85,7 @@ impl Before<'_> {
             Demand::AfterReceived(p, from, msg) => self.after_received(p, from, msg),
             Demand::AfterDropped(p, from, msg) => self.after_dropped(p, from, msg),
             Demand::Up(p) => self.up(p),
-            Demand::Down(p) => self.down(p),
+            Demand::Down(p) => self.histories.is_up(p).then_some(Breach::Up(p)),
             Demand::Idle(p) => self.idle(p),
             Demand::NotRolling(p) => self.not_rolling(p),
             Demand::Inside(p, inst) => self.inside(p, inst),
@@ -94,7 +95,11 @@ impl Before<'_> {
             Demand::OfKind(inst, kind) => self.of_kind(inst, kind),
             Demand::Initiator(p, inst) => self.initiator(p, inst),
             Demand::Undecided(inst) => self.undecided(inst),
-            Demand::Decided(inst) => self.decided(inst),
+            Demand::Decided(inst) => self
+                .histories
+                .decision(inst)
+                .is_none()
+                .then_some(Breach::Undecided(inst)),
         }
     }
 
@@ -108,18 +113,6 @@ impl Before<'_> {
         }
         let row = last_number(self.rows, &Sought::Failed(p))?;
         Some(Breach::Down(p, row))
-    }
-
-    // The process is down.
-    fn down(&self, p: ProcNo) -> Option<Breach>
-        requires before { KnowsBefore self.now }
-        ensures { IsJudged self.now.rows.now (λ s. not (s.up p)) result }
-    {
-        if self.histories.is_up(p) {
-            Some(Breach::Up(p))
-        } else {
-            None
-        }
     }
 
     // The process is in no open instance.
@@ -243,17 +236,6 @@ impl Before<'_> {
         Some(Breach::Decided(inst, row))
     }
 
-    // The instance is decided.
-    fn decided(&self, inst: InstNo) -> Option<Breach>
-        requires before { KnowsBefore self.now }
-        ensures { IsJudged self.now.rows.now (λ s. is_some (s.decision inst)) result }
-    {
-        match self.histories.decision(inst) {
-            Some(_) => None,
-            None => Some(Breach::Undecided(inst)),
-        }
-    }
-
     // The instance is of this kind.
     fn of_kind(&self, inst: InstNo, kind: Kind) -> Option<Breach>
         requires before { KnowsBefore self.now }
@@ -262,11 +244,7 @@ impl Before<'_> {
         let Some(begun) = self.beginning(inst) else {
             return Some(Breach::NotBegun(inst));
         };
-        if begun.kind == kind {
-            None
-        } else {
-            Some(Breach::OfKind(inst, begun.kind, begun.row))
-        }
+        (begun.kind != kind).then_some(Breach::OfKind(inst, begun.kind, begun.row))
     }
 
     // The process is the initiator of the instance.
@@ -277,11 +255,7 @@ impl Before<'_> {
         let Some(BegunIn { row, p: first, .. }) = self.beginning(inst) else {
             return Some(Breach::NotBegun(inst));
         };
-        if first == p {
-            None
-        } else {
-            Some(Breach::Initiator(inst, first, row))
-        }
+        (first != p).then_some(Breach::Initiator(inst, first, row))
     }
 
     // The row after a beginning is the initiator's joining.
@@ -326,19 +300,6 @@ impl Before<'_> {
     }
 }
 
-// Adds the rows of a legal log to the histories of no row.
-fn add_all(histories: &mut Histories, rows: &[Event]) -> Result<(), Memory>
-    requires few { length rows.now ≤ 2 ^ 24 }
-    requires legal { IsLegal rows.now }
-    requires histories { HistoriesOf histories.old [] }
-    ensures { OnOk result (HistoriesOf histories.new rows.now) }
-{
-    for row in rows {
-        histories.add(row)?;
-    }
-    Ok(())
-}
-
 // How the instance began that a row begins.
 fn begun_by(found: &Found) -> Option<BegunIn>
     ensures some { IfSome result (λ b. (b.row ≡ found.now.number)
@@ -376,27 +337,5 @@ fn count_of(row: &Event) -> usize
     match *row {
         Event::Began { .. } => 1,
         _ => 0,
-    }
-}
-
-// The other process of a message is another one.
-fn other_peer(p: ProcNo, peer: ProcNo) -> Option<Breach>
-    ensures { (rows : List Events) → IsJudged rows (λ s. not (peer == p)) result }
-{
-    if peer == p {
-        Some(Breach::OwnPeer(p))
-    } else {
-        None
-    }
-}
-
-// The instance that a cause names is another one than the instance that is refused.
-fn other_cause(inst: InstNo, cause: InstNo) -> Option<Breach>
-    ensures { (rows : List Events) → IsJudged rows (λ s. not (cause == inst)) result }
-{
-    if cause == inst {
-        Some(Breach::OwnCause(inst))
-    } else {
-        None
     }
 }

@@ -13,7 +13,7 @@ use kt_cuts::{Trace, is_after};
 use kt_spacetime::Event;
 
 impl Before<'_> {
-    ghost use Rattle.std.specs.Prelude.{◌≡◌, if◌then◌else◌, not, true, ℕ, Some, IfNone, IfSome};
+    ghost use Rattle.std.specs.Prelude.{◌≡◌, not, true, ℕ, IfNone, IfSome};
     ghost use Rattle.std.specs.List.{list_all};
     ghost use Rattle.kt_cuts.specs.Past.{past};
     ghost use Rattle.kt_cuts.specs.Legal.{is_later};
@@ -93,27 +93,12 @@ impl Before<'_> {
     {
         let mut latest = None;
         for place in 0..self.rows.len() {
-            latest = self.received_or(p, from, MsgNo::after(place), latest);
+            let msg = MsgNo::after(place);
+            if self.has_received(p, from, msg) {
+                latest = Some(msg);
+            }
         }
         latest
-    }
-
-    // The message, if the process received it, and else another one.
-    fn received_or(
-        &self,
-        p: ProcNo,
-        from: ProcNo,
-        msg: MsgNo,
-        other: Option<MsgNo>,
-    ) -> Option<MsgNo>
-        requires before { KnowsBefore self.now }
-        ensures { result ≡ (if has_received (past self.now.rows.now) p from msg then Some msg else other) }
-    {
-        if self.has_received(p, from, msg) {
-            Some(msg)
-        } else {
-            other
-        }
     }
 
     /// The process has dropped no later message of the sender since it is down.

@@ -4,8 +4,7 @@ use Rattle.kt_cuts.specs.Past.{past}
 use Rattle.kt_cuts.specs.Legal.{keeps}
 use Rattle.kt_cuts.proofs.Replayed.{row_read}
 use Rattle.kt_cuts.proofs.SortedFacts.{some_same}
-use Rattle.kt_explain.specs.Breaches.{IsBreach}
-use Rattle.kt_explain.specs.Breaches.{IsWaitingAt}
+use Rattle.kt_explain.specs.Breaches.{IsFirstUnmet, IsWaitingAt}
 use Rattle.kt_explain.proofs.Faults.{legal_before, breaks_there}
 use Rattle.kt_explain.proofs.bad_row.bad_row.Goals as goal
 
@@ -28,7 +27,7 @@ returns-in-Some c = λ certificates.
       record {
         row_is = number;
         there = again;
-        breach_is = subst (λ (before : List Event). IsBreach before (λ s. keeps c.args.rule s c.index-rows-index.result) c.in-Some.breach) c.in_ok-known.ensures.rows c.in-Some.ensures;
+        breach_is = subst (λ (before : List Event). IsFirstUnmet before c.args.rule c.index-rows-index.result c.in-Some.breach) c.in_ok-known.ensures.rows c.in-Some.ensures.unmet;
         undone = c.in_ok-undone_in-in-Some.ensures;
         later = c.later_in.ensures;
         waiting = subst (λ (row : Event). IsWaitingAt (take (c.get.result - 1) rows) row c.in_ok-waiting_at-in-Some.field-0) (some_same (sym second ∙ again))
@@ -47,5 +46,5 @@ returns c = λ certificates.
     let low : c.get.result - 1 < length rows = omega (arith, number, c.requires.within) in
     let again = row_read rows (c.get.result - 1) c.index-rows-index.result low c.index-rows-index.is in
     let broken = breaks_there rows c.args.row (c.get.result - 1) c.args.rule c.index-rows-index.result c.requires.bad place again in
-    let kept = subst (λ (before : List Event). keeps c.args.rule (past before) c.index-rows-index.result ≡ true) c.in_ok-known.ensures.rows c.in-None.ensures in
+    let kept = subst (λ (before : List Event). keeps c.args.rule (past before) c.index-rows-index.result ≡ true) c.in_ok-known.ensures.rows c.in-None.ensures.kept in
     absurd (differ _ kept broken)

@@ -1,10 +1,10 @@
-use Rattle.std.proofs.Common.{List, refl}
+use Rattle.std.proofs.Common.{ℕ, List, refl}
 use Rattle.kt_chain.specs.declared.certificate.Certificate.{Certificate}
 use Rattle.kt_checker.specs.declared.verdict.Verdict.{Verdict}
 use Rattle.kt_checker.specs.declared.verdict.Verdict.TheVariants.{No}
 use Rattle.std.proofs.Common.{Some}
 use Rattle.kt_explain.specs.declared.explanation.Explanation.{Explanation}
-use Rattle.kt_explain.specs.Told.{IsCertificateNo, IsExplanation}
+use Rattle.kt_explain.specs.Told.{IsExplanation, IsNoOf}
 use Rattle.kt_explain.proofs.Faults.{certificate_legal}
 use Rattle.kt_explain.proofs.Gives.{ok_gives}
 use Rattle.kt_explain.proofs.compared.compare.Goals as goal
@@ -17,6 +17,6 @@ returns-in-Err c =
     let rows = c.args.log.now.rows in
     let list = c.args.certificates.now in
     let verdict = No (Some c.args.inst) c.args.row c.args.why in
-    let no : IsCertificateNo verdict = (c.args.inst, record { row = c.args.row; reason = c.args.why; verdict_is = refl; of_certificate = c.requires.of_certificate }) in
-    ok_gives c.without.result (λ (e : Explanation). (l : List Certificate) (v : Verdict) → IsCertificateNo v → IsExplanation rows l v e) (IsExplanation rows list verdict)
+    let no : (j : ℕ) × IsNoOf verdict j = (c.args.inst, record { row = c.args.row; reason = c.args.why; verdict_is = refl; of_certificate = c.requires.of_certificate }) in
+    ok_gives c.without.result (λ (e : Explanation). (l : List Certificate) (v : Verdict) → (j : ℕ) × IsNoOf v j → IsExplanation rows l v e) (IsExplanation rows list verdict)
     (λ e f. f list verdict no) c.without.ensures

@@ -1,24 +1,15 @@
-use Rattle.std.proofs.Common.{◌≡◌, ◌+◌, ℕ, Bool, true, false, Option, Some, List, take, refl, sym, subst, arith}
-use Rattle.std.specs.Prelude.{◌&&◌, if◌then◌else◌, not, IfSome}
+use Rattle.std.proofs.Common.{◌∙◌, ◌+◌, List, take, refl, sym, subst, arith}
 use Rattle.std.proofs.lemmas.List.{length-take-le}
 use Rattle.std.proofs.lemmas.Option.{slice_get_within}
 use Rattle.kt_spacetime.specs.declared.event.Event.{Event}
 use Rattle.kt_cuts.specs.Legal.{IsLegal}
-use Rattle.kt_cuts.specs.Traces.{trace_of}
 use Rattle.kt_cuts.proofs.Items.{take_item}
 use Rattle.kt_cuts.proofs.LegalLogs.{legal_take}
 use Rattle.kt_cuts.proofs.Replayed.{row_read}
 use Rattle.kt_histories.specs.HistoriesOf.{HistoriesOf}
-use Rattle.kt_explain.specs.Breaches.{IsUndoing, is_send_live}
 use Rattle.kt_explain.proofs.Replaying.{messages_kept}
 use Rattle.kt_explain.proofs.undoing.undoing.Goals as goal
-
-undone_more : (rows : List Event) (msg place : ℕ) (old new : Option ℕ) (was now : Bool) → new ≡ (if was && not now then Some (place + 1) else old)
-    → was ≡ is_send_live (trace_of (take place rows) msg) → now ≡ is_send_live (trace_of (take (place + 1) rows) msg) → IfSome old (IsUndoing rows msg) → IfSome new (IsUndoing rows msg)
-undone_more rows msg place old new true false e w n h =
-    subst (λ (o : Option ℕ). IfSome o (IsUndoing rows msg)) (sym e) (record { place = place; number_is = refl; before = sym w; after = sym n })
-undone_more rows msg place old new true true e w n h = subst (λ (o : Option ℕ). IfSome o (IsUndoing rows msg)) (sym e) h
-undone_more rows msg place old new false now e w n h = subst (λ (o : Option ℕ). IfSome o (IsUndoing rows msg)) (sym e) h
+use Rattle.kt_explain.proofs.undoing.undoing.Goals.{then-was+then-not-is, else-was}
 
 pub add-requires : goal.add-requires
 add-requires c =
@@ -42,6 +33,13 @@ loop-place-preserved c =
     let known : HistoriesOf c.add.new.self (take (i + 1) rows) = subst (λ (log : List Event). HistoriesOf c.add.new.self log) (sym more) (c.in_ok-add.ensures (take i rows) c.loop-place.invariant.known legal) in
     record {
       known = known;
-      undone = undone_more rows msg i c.loop-place.undone c.undone_after-undone.result c.is_send_live-was.result c.is_send_live-is.result c.undone_after-undone.ensures
-          (c.is_send_live-was.ensures (take i rows) c.loop-place.invariant.known) (c.is_send_live-is.ensures (take (i + 1) rows) known) c.loop-place.invariant.undone;
+      undone = elim c.if-was.branch [
+        | then-was+then-not-is w ↦ rw w.undone-is (record {
+          place = i;
+          number_is = w.after.ensures;
+          before = sym (c.is_send_live-was.ensures (take i rows) c.loop-place.invariant.known) ∙ w.if-was.true;
+          after = sym (c.is_send_live-is.ensures (take (i + 1) rows) known) ∙ w.if-not-is.true;
+        })
+        | else-was w ↦ rw w.undone-is c.loop-place.invariant.undone
+      ];
     }

@@ -1,14 +1,32 @@
-use Rattle.std.proofs.Common.{sym, subst}
+use Rattle.std.proofs.Common.{◌≡◌, ◌∙◌, Bool, false, Option, Some, None, refl, sym, ap, subst}
+use Rattle.std.specs.Prelude.{not, is_some}
+use Rattle.kt_explain.specs.declared.breach.Breach.TheVariants as breach
+use Rattle.kt_explain.specs.declared.breach.demands.Demand.TheVariants.{OtherPeer, OtherCause, Down, Decided}
 use Rattle.kt_explain.specs.declared.breach.demands.Demand.{Demand}
 use Rattle.kt_explain.specs.Breaches.{IsJudged}
 use Rattle.kt_explain.specs.Demands.{asks}
+use Rattle.kt_explain.proofs.Demands.{judged_by}
 use Rattle.kt_explain.proofs.breach.before.Before.against.Goals as goal
 
+none_of : (o : Option Bool) → is_some o ≡ false → o ≡ None
+none_of None e = refl
+none_of (Some x) e = absurd (cc)
+
 pub returns-in-OtherPeer : goal.returns-in-OtherPeer
-returns-in-OtherPeer c = subst (λ (d : Demand). IsJudged c.args.self.now.rows.now (asks d) c.other_peer.result) (sym c.in-OtherPeer.is) (c.other_peer.ensures c.args.self.now.rows.now)
+returns-in-OtherPeer c =
+    let rows = c.args.self.now.rows.now in
+    subst (λ (d : Demand). IsJudged rows (asks d) c.then_some.result) (sym c.in-OtherPeer.is)
+    (judged_by rows (asks (OtherPeer c.in-OtherPeer.p c.in-OtherPeer.peer)) (breach.OwnPeer c.in-OtherPeer.p) c.eq.result c.then_some.result c.then_some.ensures
+    (λ e. record { so = tt; against = λ log legal so. ap not (sym c.eq.ensures ∙ e) })
+    (λ e. ap not (sym c.eq.ensures ∙ e)))
 
 pub returns-in-OtherCause : goal.returns-in-OtherCause
-returns-in-OtherCause c = subst (λ (d : Demand). IsJudged c.args.self.now.rows.now (asks d) c.other_cause.result) (sym c.in-OtherCause.is) (c.other_cause.ensures c.args.self.now.rows.now)
+returns-in-OtherCause c =
+    let rows = c.args.self.now.rows.now in
+    subst (λ (d : Demand). IsJudged rows (asks d) c.then_some-in-OtherCause.result) (sym c.in-OtherCause.is)
+    (judged_by rows (asks (OtherCause c.in-OtherCause.inst c.in-OtherCause.cause)) (breach.OwnCause c.in-OtherCause.inst) c.eq-in-OtherCause.result c.then_some-in-OtherCause.result c.then_some-in-OtherCause.ensures
+    (λ e. record { so = tt; against = λ log legal so. ap not (sym c.eq-in-OtherCause.ensures ∙ e) })
+    (λ e. ap not (sym c.eq-in-OtherCause.ensures ∙ e)))
 
 pub returns-in-Next : goal.returns-in-Next
 returns-in-Next c = subst (λ (d : Demand). IsJudged c.args.self.now.rows.now (asks d) c.next.result) (sym c.in-Next.is) c.next.ensures
@@ -35,7 +53,13 @@ pub returns-in-Up : goal.returns-in-Up
 returns-in-Up c = subst (λ (d : Demand). IsJudged c.args.self.now.rows.now (asks d) c.up.result) (sym c.in-Up.is) c.up.ensures
 
 pub returns-in-Down : goal.returns-in-Down
-returns-in-Down c = subst (λ (d : Demand). IsJudged c.args.self.now.rows.now (asks d) c.down.result) (sym c.in-Down.is) c.down.ensures
+returns-in-Down c =
+    let rows = c.args.self.now.rows.now in
+    let up = c.is_up.ensures rows c.requires.before.histories in
+    subst (λ (d : Demand). IsJudged rows (asks d) c.then_some-in-Down.result) (sym c.in-Down.is)
+    (judged_by rows (asks (Down c.in-Down.p)) (breach.Up c.in-Down.p) c.is_up.result c.then_some-in-Down.result c.then_some-in-Down.ensures
+    (λ e. record { so = sym up ∙ e; against = λ log legal so. ap not so })
+    (λ e. ap not (sym up ∙ e)))
 
 pub returns-in-Idle : goal.returns-in-Idle
 returns-in-Idle c = subst (λ (d : Demand). IsJudged c.args.self.now.rows.now (asks d) c.idle.result) (sym c.in-Idle.is) c.idle.ensures
@@ -65,4 +89,10 @@ pub returns-in-Undecided : goal.returns-in-Undecided
 returns-in-Undecided c = subst (λ (d : Demand). IsJudged c.args.self.now.rows.now (asks d) c.undecided.result) (sym c.in-Undecided.is) c.undecided.ensures
 
 pub returns-in-Decided : goal.returns-in-Decided
-returns-in-Decided c = subst (λ (d : Demand). IsJudged c.args.self.now.rows.now (asks d) c.decided.result) (sym c.in-Decided.is) c.decided.ensures
+returns-in-Decided c =
+    let rows = c.args.self.now.rows.now in
+    let decision = c.decision.ensures rows c.requires.before.histories in
+    subst (λ (d : Demand). IsJudged rows (asks d) c.then_some-in-Decided.result) (sym c.in-Decided.is)
+    (judged_by rows (asks (Decided c.in-Decided.inst)) (breach.Undecided c.in-Decided.inst) c.is_none.result c.then_some-in-Decided.result c.then_some-in-Decided.ensures
+    (λ e. record { so = sym decision ∙ none_of c.decision.result (c.is_none.ensures ∙ ap not e); against = λ log legal so. ap is_some so })
+    (λ e. ap is_some (sym decision) ∙ (c.is_none.ensures ∙ ap not e)))

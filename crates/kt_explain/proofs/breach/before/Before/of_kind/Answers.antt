@@ -8,6 +8,7 @@ use Rattle.kt_cuts.specs.Past.{Past, Beginning, past, kind_of, is_checkpoint_kin
 use Rattle.kt_explain.specs.declared.breach.demands.Demand.TheVariants.{OfKind}
 use Rattle.kt_explain.specs.Demands.{asks}
 use Rattle.kt_explain.proofs.Begun.{not_known}
+use Rattle.kt_explain.proofs.Demands.{from_not, from_not_false, judged_by}
 use Rattle.kt_explain.proofs.breach.before.Before.of_kind.Goals as goal
 
 has_kind : Kind → Option Kind → Bool
@@ -37,17 +38,15 @@ returns-in_default c = record {
   against = λ log legal so. asks_kind (past log) c.args.inst c.args.kind None (ap (λ (o : Option Beginning). option_map (λ b. b.kind) o) (not_known (past log) c.args.inst so)) ∙ none_has c.args.kind;
 }
 
-pub returns-then-eq : goal.returns-then-eq
-returns-then-eq c =
+pub returns : goal.returns
+returns c =
+    let k = c.args.inst in
+    let kind = c.args.kind in
     let found = c.in-Some.begun.kind in
-    asks_kind (past c.args.self.now.rows.now) c.args.inst c.args.kind (Some found) (ap (λ (o : Option Beginning). option_map (λ b. b.kind) o) c.in-Some.ensures.known)
-    ∙ (same_kind found c.args.kind ∙ (sym c.eq.ensures ∙ c.if-eq.true))
-
-pub returns-else-eq : goal.returns-else-eq
-returns-else-eq c =
-    let found = c.in-Some.begun.kind in
-    record {
-      so = (ap (λ (o : Option Beginning). option_map (λ b. b.kind) o) c.in-Some.ensures.known, _, c.in-Some.ensures.row);
-      against = λ log legal so. asks_kind (past log) c.args.inst c.args.kind (Some found) so.0
-          ∙ (same_kind found c.args.kind ∙ (sym c.eq.ensures ∙ c.if-eq.false));
-    }
+    let known = ap (λ (o : Option Beginning). option_map (λ b. b.kind) o) c.in-Some.ensures.known in
+    judged_by c.args.self.now.rows.now (asks (OfKind k kind)) _ c.ne.result c.then_some.result c.then_some.ensures
+    (λ e. record {
+      so = (known, _, c.in-Some.ensures.row);
+      against = λ log legal so. asks_kind (past log) k kind (Some found) so.0 ∙ (same_kind found kind ∙ from_not _ (sym c.ne.ensures ∙ e));
+    })
+    (λ e. asks_kind (past c.args.self.now.rows.now) k kind (Some found) known ∙ (same_kind found kind ∙ from_not_false _ (sym c.ne.ensures ∙ e)))

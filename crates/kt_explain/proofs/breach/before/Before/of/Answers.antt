@@ -8,7 +8,7 @@ use Rattle.kt_cuts.proofs.LegalLogs.{legal_take}
 use Rattle.kt_cuts.proofs.Replayed.{row_read}
 use Rattle.kt_histories.specs.HistoriesOf.{HistoriesOf}
 use Rattle.kt_explain.proofs.Replaying.{messages_kept}
-use Rattle.kt_explain.proofs.breach.before.add_all.Goals as goal
+use Rattle.kt_explain.proofs.breach.before.Before.of.Goals as goal
 
 pub add-requires : goal.add-requires
 add-requires c =
