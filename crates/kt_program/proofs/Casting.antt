@@ -30,9 +30,6 @@ at_or_before (suc p) zero l = absurd (omega (arith, l))
 at_or_before (suc p) (suc n) l = next_or_same p n (at_or_before p n (omega (arith, l)))
 
 module _ {O : Type 0} (Made : ℕ → O → Type 0) (kinds : List ℕ) (commands : List Command) where
-  pub begun_none : IsBegun Made kinds commands 0 []
-  begun_none = record { processes = refl; objects = λ p l. absurd (omega (arith, l)); made = λ p l. absurd (omega (arith, l)) }
-
   -- what is so of the rows before and of the next one is so of all
   one_more : (P : ℕ → List O → Type 0) (count : ℕ) (cast : List (List O)) (row : List O) → length cast ≡ count → ((p : ℕ) → p < count → P p (slice_index_or cast p []))
       → P count row → (p : ℕ) → p < count + 1 → P p (slice_index_or (cast ++ row ∷ []) p [])

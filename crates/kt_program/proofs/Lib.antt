@@ -6,7 +6,6 @@ pub mod Commands
 pub mod Exactly
 pub mod NewCasts
 pub mod NewObjects
-pub mod Numbers
 pub mod Pictures
 pub mod Reading
 pub mod Refused

@@ -84,9 +84,6 @@ outputs_named name fault (inr e) = not_of_steps name fault (subst IsNotOfSteps (
 pub app_named : (name : Name) (fault : ProgramFault) (why : AppFault) → fault ≡ program.App why → IsOfNamedSteps name fault
 app_named name fault why is = not_of_steps name fault (subst IsNotOfSteps (sym is) tt)
 
-pub scenario_named : (name : Name) (fault : ProgramFault) → IsNotOfSteps fault → IsOfNamedSteps name fault
-scenario_named name fault h = not_of_steps name fault h
-
 -- what a run meets over new objects, as the program answers it
 module _ (by : By) (order : Order) (plan : Planned) (given : List Step) where
   pub serial_fault : (fault : RunFault) → by ≡ Serial → is_of_cast fault ≡ false → ((p : ℕ) → fault ≢ run_fault.Object p) → ((p : ℕ) → fault ≢ run_fault.Journal p)
@@ -108,19 +105,6 @@ module _ (by : By) (order : Order) (plan : Planned) (given : List Step) where
   threads_fault (live_fault.Step why) threads right objects = record { threads = threads; found = λ e. cc (e); right = right; objects = objects }
   threads_fault live_fault.Spawn threads right objects = record { threads = threads; found = λ e. cc (e); right = right; objects = objects }
   threads_fault live_fault.Differ threads right objects = record { threads = threads; found = λ e. cc (e); right = right; objects = objects }
-
--- such a fault stops a run before anything is written
-pub stops_over_new : (by : By) (order : Order) (Are : List Step → List Event → Type 0) (plan : Planned) (given : List Step) (told : KeptOutputs) (fault : AppFault) → IsFaultOverNew by order plan given fault → StopsRecording Are plan told told fault
-stops_over_new by order Are plan given told (app.Run fault) h = (h.found, refl)
-stops_over_new by order Are plan given told (app.Live fault) h = (h.found, refl)
-stops_over_new by order Are plan given told app.Memory h = inl refl
-stops_over_new by order Are plan given told app.Write h = absurd h
-stops_over_new by order Are plan given told app.RecordTooLong h = absurd h
-stops_over_new by order Are plan given told (app.Uncertified fault) h = absurd h
-stops_over_new by order Are plan given told (app.Unfit why) h = absurd h
-stops_over_new by order Are plan given told (app.Picture why) h = absurd h
-stops_over_new by order Are plan given told (app.Log fault) h = absurd h
-stops_over_new by order Are plan given told (app.Cert fault) h = absurd h
 
 -- a step that is refused over objects that are new
 pub refused_anew : (order was : Order) (plan : Planned) (cast : List (List Content)) (given : List Step) (done : ℕ) (why : StepFault) → was ≡ order → AreNew plan cast → IsRefusedIn was plan cast given done why

@@ -20,13 +20,6 @@ use Rattle.kt_program.specs.declared.fault.AppFault.TheVariants as app
 
 -- what is written of such a run is written of one that is other things too
 module _ (Are Be : List Step → List Event → Type 0) (so : (steps : List Step) (rows : List Event) → Are steps rows → Be steps rows) (plan : Planned) (old new : KeptOutputs) where
-  pub recorded_so : IsRecorded Are plan old new → IsRecorded Be plan old new
-  recorded_so w = (
-    w.0,
-    record { rows = w.1.rows; run = so w.0 w.1.rows w.1.run; follows = w.1.follows; promised = w.1.promised; writes = w.1.writes },
-    w.2,
-  )
-
   some_so : (At : List Step → List Event → Type 0) → OfSome Are At → OfSome Be At
   some_so At s = (s.0, s.1, so s.0 s.1 s.2, s.3)
 

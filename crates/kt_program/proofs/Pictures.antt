@@ -16,7 +16,7 @@ use Rattle.kt_program.specs.declared.fault.AppFault.TheVariants as app
 use Rattle.kt_program.specs.declared.fault.ProgramFault.{ProgramFault}
 use Rattle.kt_program.specs.declared.fault.ProgramFault.TheVariants as program
 use Rattle.kt_program.specs.Drawn.{AreNamesOf, IsOfDrawing, IsOfNames, IsPictureOfFile, IsPictureWith, IsSomePicture, IsUndrawn, IsUndrawnRun, LeavesPicture, of_draw}
-use Rattle.kt_program.specs.Explained.{Say}
+use Rattle.kt_program.specs.Judging.{Say}
 use Rattle.kt_program.specs.Names.{Name}
 use Rattle.kt_program.specs.Outputs.{TextGoesTo}
 use Rattle.kt_program.specs.Stored.{IsRefusal, BytesTold}

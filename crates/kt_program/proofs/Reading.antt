@@ -26,12 +26,6 @@ read_long most (Some all) (Some left) text c l = inr (l, left, c)
 longer : (most : ℕ) (text rest whole : List ℕ) → whole ≡ text ++ rest → most < length text → most < length whole
 longer most text rest whole e l = let h = ap length e ∙ length-append text rest in omega (arith, h, l)
 
--- the plan of what was read is that of the whole text
-pub plan_of_whole : (told : BytesTold) (text : List ℕ) (plan : Planned) → IsRead most_bytes told text → IsScenario text plan → IsScenarioOf told plan
-plan_of_whole None text plan read is = tt
-plan_of_whole (Some whole) text plan (inl e) is = subst (λ (t : List ℕ). IsScenario t plan) e is
-plan_of_whole (Some whole) text plan (inr (l, rest, e)) is = let few = is.few in absurd (omega (arith, few, l))
-
 fault_in_whole : (text rest whole : List ℕ) (fault : ScenarioFault) → most_bytes < length text → whole ≡ text ++ rest → IsFirstScenarioFault text fault → IsFirstScenarioFault whole fault
 fault_in_whole text rest whole fault l e (inl first) = inl (first.0, longer most_bytes text rest whole e l)
 fault_in_whole text rest whole fault l e (inr first) = let few = first.3 in absurd (omega (arith, few, l))
@@ -41,12 +35,6 @@ pub fault_of_whole : (told : BytesTold) (text : List ℕ) (fault : ScenarioFault
 fault_of_whole None text fault read is = tt
 fault_of_whole (Some whole) text fault (inl e) is = subst (λ (t : List ℕ). IsFirstScenarioFault t fault) e is
 fault_of_whole (Some whole) text fault (inr (l, rest, e)) is = fault_in_whole text rest whole fault l e is
-
--- the same of steps
-pub steps_of_whole : (told : BytesTold) (names : List (List ℕ)) (text : List ℕ) (list : List Step) → IsRead most_step_bytes told text → AreSteps names text list → AreStepsOf told names list
-steps_of_whole None names text list read is = tt
-steps_of_whole (Some whole) names text list (inl e) is = subst (λ (t : List ℕ). AreSteps names t list) e is
-steps_of_whole (Some whole) names text list (inr (l, rest, e)) is = let few = is.few in absurd (omega (arith, few, l))
 
 step_fault_in_whole : (names : List (List ℕ)) (text rest whole : List ℕ) (fault : StepsFault) → most_step_bytes < length text → whole ≡ text ++ rest
     → IsFirstStepFault names text fault → IsFirstStepFault names whole fault

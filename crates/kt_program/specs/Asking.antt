@@ -7,12 +7,12 @@ use Rattle.clap.specs.declared.error.kind.ErrorKind.TheVariants.{OutOfMemory, Di
 use Rattle.kt_program.specs.declared.ask.AskFault.{AskFault}
 use Rattle.kt_program.specs.declared.ask.AskFault.TheVariants as ask
 use Rattle.kt_program.specs.declared.ending.Done.{Done}
-use Rattle.kt_program.specs.declared.ending.Done.TheVariants.{Judged, Explained, Played, Certified, Drawn, Shown}
+use Rattle.kt_program.specs.declared.ending.Done.TheVariants.{Judged, Played, Certified, Drawn, Shown}
 use Rattle.kt_program.specs.declared.fault.Failure.{Failure}
 use Rattle.kt_program.specs.declared.fault.ProgramFault.{ProgramFault}
 use Rattle.kt_program.specs.declared.fault.ProgramFault.TheVariants as program
 use Rattle.kt_program.specs.declared.line.Asked.{Asked}
-use Rattle.kt_program.specs.declared.line.Asked.TheVariants.{Certify, Check, Draw, Explain, Live, Play, Run}
+use Rattle.kt_program.specs.declared.line.Asked.TheVariants.{Certify, Check, Draw, Judge, Live, Play, Run}
 use Rattle.kt_program.specs.Names.{IsApart, IsNamed}
 use Rattle.kt_program.specs.Program.{IsErrorFor, NamesAsked, program as definition}
 
@@ -51,15 +51,11 @@ IsOfSteps (Play scenario steps log cert) = IsNamed steps
 IsOfSteps (Run run) = IsNamed run.steps
 IsOfSteps _ = ⊥
 
--- whether a stored run is to be judged
+-- whether a stored log is to be judged
 abbrev pub IsCheck : Asked → Type 0
 IsCheck (Check log cert) = Unit {0}
+IsCheck (Judge asked) = Unit {0}
 IsCheck _ = ⊥
-
--- whether a stored run is to be judged, and the answer told of
-abbrev pub IsExplain : Asked → Type 0
-IsExplain (Explain log cert) = Unit {0}
-IsExplain _ = ⊥
 
 -- whether a stored log is to be certified
 abbrev pub IsCertify : Asked → Type 0
@@ -85,7 +81,6 @@ Ask words P = (asked : Asked) × NamesAsked (subcommand_of definition words) ask
 -- be written, and a scenario or steps where they name them; other faults come with any words
 abbrev pub DoneFor : List Text → Done → Type 0
 DoneFor words (Judged passed) = Ask words IsCheck
-DoneFor words (Explained passed) = Ask words IsExplain
 DoneFor words Played = Ask words IsOfRun
 DoneFor words Certified = Ask words IsCertify
 DoneFor words Drawn = Ask words IsDraw

@@ -18,7 +18,7 @@ use Rattle.kt_program.specs.declared.fault.Failure.{Failure}
 use Rattle.kt_program.specs.declared.fault.ProgramFault.{ProgramFault}
 use Rattle.kt_program.specs.declared.fault.ProgramFault.TheVariants as program
 use Rattle.kt_program.specs.declared.line.Drawing.{Drawing}
-use Rattle.kt_program.specs.Explained.{Say}
+use Rattle.kt_program.specs.Judging.{Say}
 use Rattle.kt_program.specs.Inputs.{IsPlanOfFile}
 use Rattle.kt_program.specs.Names.{IsNamed, Name}
 use Rattle.kt_program.specs.Outputs.{TextGoesTo}

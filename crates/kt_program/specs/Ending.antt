@@ -7,35 +7,36 @@ use Rattle.kt_plan.specs.declared.steps.Step.{Step}
 use Rattle.kt_plan.specs.Limits.{Planned}
 use Rattle.kt_certify.specs.Certificates.{certificates}
 use Rattle.kt_report.specs.Exact.{report_of}
-use Rattle.kt_checker.specs.declared.verdict.Verdict.{Verdict}
 use Rattle.kt_plans.specs.Follows.{FollowsPlan}
 use Rattle.kt_plans.specs.Headline.{IsPromised}
+use Rattle.kt_program.specs.declared.answer.Answer.{Answer}
 use Rattle.kt_program.specs.declared.ending.Done.{Done}
-use Rattle.kt_program.specs.declared.ending.Done.TheVariants.{Judged, Explained, Played, Certified, Drawn, Shown}
+use Rattle.kt_program.specs.declared.ending.Done.TheVariants.{Judged, Played, Certified, Drawn, Shown}
 use Rattle.kt_program.specs.declared.fault.AppFault.TheVariants as app
 use Rattle.kt_program.specs.declared.fault.Failure.{Failure}
 use Rattle.kt_program.specs.declared.fault.ProgramFault.{ProgramFault}
 use Rattle.kt_program.specs.declared.fault.ProgramFault.TheVariants as program
 use Rattle.kt_program.specs.declared.line.Asked.{Asked}
 use Rattle.kt_program.specs.declared.line.Run.{Run as RunAsked}
-use Rattle.kt_program.specs.declared.line.Asked.TheVariants.{Certify, Check, Draw, Explain, Live, Play, Run}
+use Rattle.kt_program.specs.declared.line.Asked.TheVariants.{Certify, Check, Draw, Judge, Live, Play, Run}
 use Rattle.kt_program.specs.Asking.{Ask, IsOfRun}
 use Rattle.kt_run.specs.Runs.{IsLogOfRun}
 use Rattle.kt_program.specs.Certified.{CertifiesTo, LeavesCertificates}
 use Rattle.kt_program.specs.Drawn.{DrawsTo, LeavesPicture}
-use Rattle.kt_program.specs.Explained.{AppendsExplained, ExplainsFiles}
+use Rattle.kt_program.specs.Judging.{AnswersFiles}
 use Rattle.kt_program.specs.Inputs.{AreGiven, IsPlanOfFile}
 use Rattle.kt_program.specs.Names.{Name}
 use Rattle.kt_program.specs.Played.{OverNew}
 use Rattle.kt_program.specs.Made.{IsMadeAs, lived_run, order_by, played_run}
 use Rattle.kt_program.specs.Status.{ended_status}
-use Rattle.kt_program.specs.Stored.{BytesTold, JudgesFiles, is_yes, verdict_line}
+use Rattle.kt_program.specs.Stored.{BytesTold, JudgesFiles, answer_text, passes}
 
--- the line of an answer, which is a yes exactly where this is true
+-- an answer and lines below it, which is a yes exactly where this is true
 abbrev pub AppendsAnswer : Bool → BytesTold → BytesTold → Type 0
-AppendsAnswer passed old new = (verdict : Verdict) × (passed ≡ is_yes verdict) × Appends old new (verdict_line verdict)
+AppendsAnswer passed old new =
+    (answer : Answer) × (lines : List ℕ) × (passed ≡ passes answer) × Appends old new (answer_text answer lines)
 
--- the answer's line; at a fault nothing, unless it is one of the writer
+-- the answer; at a fault nothing, unless it is one of the writer
 abbrev pub LeavesAnswer : Result Bool Failure → BytesTold → BytesTold → Type 0
 LeavesAnswer (Ok passed) old new = AppendsAnswer passed old new
 LeavesAnswer (Err failure) old new = failure.fault ≢ program.App app.Write → new ≡ old
@@ -103,7 +104,6 @@ IsOfNamedSteps (Some name) fault = Unit {0}
 -- the same of all that the program does; nothing is said of the text of help
 abbrev pub LeavesDone : Done → BytesTold → BytesTold → Type 0
 LeavesDone (Judged passed) old new = AppendsAnswer passed old new
-LeavesDone (Explained passed) old new = AppendsExplained passed old new
 LeavesDone Played old new = AppendsReport old new
 LeavesDone Certified old new = LeavesCertificates old new
 LeavesDone Drawn old new = LeavesPicture old new
@@ -121,16 +121,15 @@ abbrev pub PlayedFor : {F : Type 0} → List Text → (F → BytesTold) → Byte
 PlayedFor words told old new Played = Ask words (Plays told old new)
 PlayedFor words told old new _ = Unit {0}
 
--- what is written of a stored run that is to be judged: the answer to the bytes of the two files, and what is told of it
+-- what is written of a stored log that is to be judged: the answer to the bytes of the files, and what is told of it
 abbrev pub Judges : {F : Type 0} → (F → BytesTold) → BytesTold → BytesTold → Bool → Asked → Type 0
 Judges told old new passed (Check log cert) = JudgesFiles told old new passed
-Judges told old new passed (Explain log cert) = ExplainsFiles told old new passed
+Judges told old new passed (Judge asked) = AnswersFiles told asked old new passed
 Judges told old new passed _ = ⊥
 
--- where a stored run was judged, that is written which these words ask for
+-- where a stored log was judged, that is written which these words ask for
 abbrev pub JudgedFor : {F : Type 0} → List Text → (F → BytesTold) → BytesTold → BytesTold → Done → Type 0
 JudgedFor words told old new (Judged passed) = Ask words (Judges told old new passed)
-JudgedFor words told old new (Explained passed) = Ask words (Judges told old new passed)
 JudgedFor words told old new _ = Unit {0}
 
 -- what is written of a log that is to be certified: its certificates go where that is asked

@@ -3,7 +3,7 @@ pub mod CastRows
 pub mod Certified
 pub mod Drawn
 pub mod Ending
-pub mod Explained
+pub mod Judging
 pub mod Faults
 pub mod Files
 pub mod Inputs

@@ -3,7 +3,7 @@ use Rattle.std.specs.Prelude.{◌≡◌, ◌≢◌, ◌⊎◌, ◌++◌, ◌≤�
 use Rattle.std.specs.Borrow.{Bor}
 use Rattle.clap.specs.Words.{Text}
 use Rattle.kt_program.specs.declared.line.Asked.{Asked}
-use Rattle.kt_program.specs.declared.line.Asked.TheVariants.{Certify, Check, Draw, Explain, Live, Play, Run}
+use Rattle.kt_program.specs.declared.line.Asked.TheVariants.{Certify, Check, Draw, Judge, Live, Play, Run}
 
 -- the name of a descriptor: `/dev/fd/` and its digits
 abbrev pub IsDescriptor : Text → Type 0
@@ -54,7 +54,7 @@ inputs_of (Play scenario steps log cert) = Some scenario ∷ steps ∷ None ∷ 
 inputs_of (Run run) = Some run.scenario ∷ run.steps ∷ None ∷ []
 inputs_of (Live scenario log cert) = Some scenario ∷ None ∷ None ∷ []
 inputs_of (Check log cert) = Some log ∷ Some cert ∷ None ∷ []
-inputs_of (Explain log cert) = Some log ∷ Some cert ∷ None ∷ []
+inputs_of (Judge asked) = Some asked.log ∷ asked.cert ∷ None ∷ []
 inputs_of (Certify log cert) = Some log ∷ None ∷ None ∷ []
 inputs_of (Draw asked) = Some asked.log ∷ asked.names ∷ asked.cert ∷ []
 
@@ -63,7 +63,7 @@ outputs_of (Play scenario steps log cert) = log ∷ cert ∷ None ∷ []
 outputs_of (Run run) = run.log ∷ run.cert ∷ run.kept ∷ []
 outputs_of (Live scenario log cert) = log ∷ cert ∷ None ∷ []
 outputs_of (Check log cert) = None ∷ None ∷ None ∷ []
-outputs_of (Explain log cert) = None ∷ None ∷ None ∷ []
+outputs_of (Judge asked) = None ∷ None ∷ None ∷ []
 outputs_of (Certify log cert) = cert ∷ None ∷ None ∷ []
 outputs_of (Draw asked) = asked.svg ∷ None ∷ None ∷ []
 

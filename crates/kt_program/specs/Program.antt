@@ -1,5 +1,5 @@
 -- The command line as clap reads it.
-use Rattle.std.specs.Prelude.{◌≡◌, ◌≢◌, ◌<◌, ◌^◌, ◌⊎◌, ℕ, List, Option, Some, None, option_map, codes, true, false}
+use Rattle.std.specs.Prelude.{◌≡◌, ◌≢◌, ◌<◌, ◌^◌, ◌⊎◌, ℕ, List, Option, Some, None, option_map, codes, true, false, MatchBool}
 use Rattle.clap.specs.Words.{App, Rule, Row, Text, rule_of, app_of, new_app, new_rule, with_rule, with_subcommand, first_of, subcommand_of}
 use Rattle.std.specs.Fmt.{decimal}
 use Rattle.clap.specs.Words.{Kinds, HasKind, fault_of, kind_of}
@@ -11,15 +11,20 @@ use Rattle.clap.specs.declared.builder.arg.Arg.{Arg}
 use Rattle.clap.specs.declared.builder.action.ArgAction.TheVariants.{SetTrue}
 use Rattle.clap.specs.declared.builder.value_parser.ValueParser.TheVariants.{Unsigned}
 use Rattle.kt_program.specs.declared.line.Asked.{Asked}
-use Rattle.kt_program.specs.declared.line.Asked.TheVariants.{Certify, Check, Draw, Explain, Live, Play, Run}
+use Rattle.kt_program.specs.declared.line.Asked.TheVariants.{Certify, Check, Draw, Judge, Live, Play, Run}
 use Rattle.kt_program.specs.declared.line.By.{By}
 use Rattle.kt_program.specs.declared.line.By.TheVariants.{Serial, Threads}
 use Rattle.kt_program.specs.declared.line.Drawing.{Drawing}
+use Rattle.kt_program.specs.declared.line.Judging.{Judging}
 use Rattle.kt_program.specs.declared.line.Run.{Run as RunAsked}
 
 -- a word that has to be there, with a name in help
 abbrev pub wanted : Text → Rule
 wanted id = record (new_rule id) { required = true; value_names = 1 }
+
+-- a word that may be there, with a name in help
+abbrev pub possible : Text → Rule
+possible id = record (new_rule id) { value_names = 1 }
 
 -- an option with a value, named in help
 abbrev pub optional : Text → Rule
@@ -57,9 +62,10 @@ play = with_outputs (with_rule (with_rule (with_rule (scenario_command (codes "p
 abbrev pub live : App
 live = with_outputs (with_rule (scenario_command (codes "live")) (optional (codes "record")))
 
--- the command that judges a stored run
+-- the command that judges a stored log
 abbrev pub check : App
-check = with_hints (with_rule (with_rule (log_command (codes "check")) (wanted (codes "cert"))) (switch (codes "explain")))
+check =
+    with_hints (with_rule (with_rule (with_rule (log_command (codes "check")) (possible (codes "cert"))) (switch (codes "explain"))) (switch (codes "at-rest")))
 
 -- the command that certifies a stored log
 abbrev pub certify : App
@@ -126,10 +132,20 @@ pub record NamesOrder (rows : List Row) (seed : Option ℕ) (kept : Option Text)
 abbrev pub IsSet : Text → List Row → Type 0
 IsSet id rows = first_of id rows ≡ Some (codes "true")
 
--- what the matches of `check` name
+-- what the matches of `check` name: certificates, and neither of its options
 pub record NamesCheck (rows : List Row) (log cert : Text) : Type 0 where
   pub log_is : first_of (codes "log") rows ≡ Some log
   pub cert_is : first_of (codes "cert") rows ≡ Some cert
+  pub untold : ¬ IsSet (codes "explain") rows
+  pub lax : ¬ IsSet (codes "at-rest") rows
+
+-- what they name else: no certificates, or one of the options
+pub record NamesJudging (rows : List Row) (asked : Judging) : Type 0 where
+  pub log_is : first_of (codes "log") rows ≡ Some asked.log.now
+  pub cert_is : first_of (codes "cert") rows ≡ option_map (λ s. s.now) asked.cert
+  pub explains_is : MatchBool asked.explains (IsSet (codes "explain") rows) (¬ IsSet (codes "explain") rows)
+  pub at_rest_is : MatchBool asked.at_rest (IsSet (codes "at-rest") rows) (¬ IsSet (codes "at-rest") rows)
+  pub some : (cert : Text) → ¬ NamesCheck rows asked.log.now cert
 
 -- a number of an option: below 2^32, and spelled by its digits; none where the option is missing
 abbrev pub IsGivenNumber : Text → List Row → Option ℕ → Type 0
@@ -166,8 +182,8 @@ NamesIn name rows (Play scenario steps log cert) =
 NamesIn name rows (Live scenario log cert) =
     (name ≡ codes "live") × NamesLive rows scenario.now (option_map (λ s. s.now) log) (option_map (λ s. s.now) cert) × (first_of (codes "record") rows ≡ None)
 NamesIn name rows (Run run) = NamesRun run.by name rows run
-NamesIn name rows (Check log cert) = (name ≡ codes "check") × NamesCheck rows log.now cert.now × ¬ IsSet (codes "explain") rows
-NamesIn name rows (Explain log cert) = (name ≡ codes "check") × NamesCheck rows log.now cert.now × IsSet (codes "explain") rows
+NamesIn name rows (Check log cert) = (name ≡ codes "check") × NamesCheck rows log.now cert.now
+NamesIn name rows (Judge asked) = (name ≡ codes "check") × NamesJudging rows asked
 NamesIn name rows (Certify log cert) = (name ≡ codes "certify") × (first_of (codes "log") rows ≡ Some log.now) × (first_of (codes "cert") rows ≡ option_map (λ s. s.now) cert)
 NamesIn name rows (Draw asked) = (name ≡ codes "draw") × NamesDraw rows asked
 

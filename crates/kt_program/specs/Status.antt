@@ -1,7 +1,7 @@
 -- Exit statuses.
 use Rattle.std.specs.Prelude.{ℕ, Bool, true, false, Result, Ok, Err}
 use Rattle.kt_program.specs.declared.ending.Done.{Done}
-use Rattle.kt_program.specs.declared.ending.Done.TheVariants.{Judged, Explained, Played, Certified, Drawn, Shown}
+use Rattle.kt_program.specs.declared.ending.Done.TheVariants.{Judged, Played, Certified, Drawn, Shown}
 use Rattle.kt_program.specs.declared.fault.Failure.{Failure}
 use Rattle.kt_program.specs.declared.fault.ProgramFault.{ProgramFault}
 use Rattle.kt_program.specs.Faults.{refusal_status}
@@ -14,7 +14,6 @@ answer_status false = 1
 -- 0 but for a no, which is 1
 abbrev pub done_status : Done → ℕ
 done_status (Judged passed) = answer_status passed
-done_status (Explained passed) = answer_status passed
 done_status Played = 0
 done_status Certified = 0
 done_status Drawn = 0

@@ -1,5 +1,5 @@
 -- What the program answers to a stored log with its certificates.
-use Rattle.std.specs.Prelude.{◌≡◌, ◌≢◌, ◌↔◌, ℕ, Bool, true, false, Option, List, [], ◌∷◌, ◌++◌, IfSome}
+use Rattle.std.specs.Prelude.{◌≡◌, ◌≢◌, ◌↔◌, ℕ, Bool, true, false, Option, List, [], ◌∷◌, ◌++◌, IfSome, codes}
 use Rattle.std.specs.Io.KnownBytes.{Appends}
 use Rattle.kt_spacetime.specs.declared.event.Event.{Event}
 use Rattle.kt_log_text.specs.declared.fault.LogFault.{LogFault}
@@ -10,11 +10,14 @@ use Rattle.kt_chain.specs.declared.certificate.Certificate.{Certificate}
 use Rattle.kt_chain.specs.declared.fault.CertTextFault.{CertTextFault}
 use Rattle.kt_chain.specs.declared.fault.CertTextFault.TheVariants as cert
 use Rattle.kt_chain.specs.Texts as certs
+use Rattle.kt_certify.specs.FaultTexts.{unfit_text}
 use Rattle.kt_checker.specs.declared.verdict.Verdict.{Verdict}
 use Rattle.kt_checker.specs.declared.verdict.Verdict.TheVariants.{Yes, No}
 use Rattle.kt_checker.specs.Passing.{IsPassed}
 use Rattle.kt_checker.specs.Streamed.{IsAnswerOf, SaysRows}
 use Rattle.kt_checker.specs.Words.{verdict_words}
+use Rattle.kt_program.specs.declared.answer.Answer.{Answer}
+use Rattle.kt_program.specs.declared.answer.Answer.TheVariants.{Checked, Unlinked, Open}
 use Rattle.kt_program.specs.declared.fault.AppFault.{AppFault}
 use Rattle.kt_program.specs.declared.fault.AppFault.TheVariants as app
 
@@ -30,7 +33,7 @@ records_told bytes = (rows_unread bytes).left
 abbrev pub SayCertificates : BytesTold → List Certificate → Type 0
 SayCertificates bytes certificates = IfSome (records_told bytes) (λ text. certs.IsCertText text certificates)
 
--- whether an answer is a yes
+-- whether an answer of the checker is a yes
 abbrev pub is_yes : Verdict → Bool
 is_yes Yes = true
 is_yes (No inst row why) = false
@@ -47,7 +50,23 @@ IsExact log cert passed =
     IfSome (records_told log) (λ text. (read : List Event) → rows.IsLogText text read
     → IfSome (records_told cert) (λ also. (certificates : List Certificate) → certs.IsCertText also certificates → (passed ≡ true) ↔ IsPassed read certificates))
 
--- the line of an answer
+-- whether an answer is a yes
+abbrev pub passes : Answer → Bool
+passes (Checked verdict) = is_yes verdict
+passes (Unlinked why) = false
+passes Open = false
+
+-- its words: the checker's, why the log means no certificates, or that it leaves something open
+abbrev pub answer_words : Answer → List ℕ
+answer_words (Checked verdict) = verdict_words verdict
+answer_words (Unlinked why) = unfit_text why
+answer_words Open = codes "no open"
+
+-- its line, and the lines below it
+abbrev pub answer_text : Answer → List ℕ → List ℕ
+answer_text answer lines = answer_words answer ++ 10 ∷ lines
+
+-- the line of an answer of the checker
 abbrev pub verdict_line : Verdict → List ℕ
 verdict_line verdict = verdict_words verdict ++ 10 ∷ []
 

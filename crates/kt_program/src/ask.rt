@@ -1,16 +1,16 @@
 //! The command line, by clap.
 
-ghost use Rattle.std.specs.Prelude.{◌≡◌, ◌↔◌, ◌<◌, ◌^◌, ◌≢◌, ℕ, codes, IfOk, IfErr, IfSome, IfNone, Some, None, option_map, Option};
+ghost use Rattle.std.specs.Prelude.{◌≡◌, ◌↔◌, ◌<◌, ◌^◌, ◌≢◌, ℕ, codes, IfOk, IfErr, IfSome, IfNone, MatchBool, Some, None, option_map, Option};
 ghost use Rattle.clap.specs.Words.{App, Rule, with_rule, with_subcommand, first_of, kind_of, new_app, rule_of, subcommand_of, subcommand_rows_of, rows_of, found_of};
 ghost use Rattle.std.specs.Fmt.{decimal};
 ghost use Rattle.clap.specs.declared.error.kind.ErrorKind.TheVariants.{MissingSubcommand};
-ghost use Rattle.kt_program.specs.Program.{program, certify, check, live, numeric, play, with_hints, with_outputs, optional, switch, wanted, IsRule, IsDefined, NamesAsked, NamesIn, draw, IsGivenNumber, SpellsSeed};
+ghost use Rattle.kt_program.specs.Program.{program, certify, check, live, numeric, play, with_hints, with_outputs, optional, possible, switch, wanted, IsRule, IsDefined, IsSet, NamesAsked, NamesIn, draw, IsGivenNumber, SpellsSeed};
 ghost use Rattle.kt_program.specs.Asking.{IsUnasked};
 ghost use Rattle.kt_program.specs.Names.{IsApart};
 ghost use Rattle.kt_program.specs.declared.ask.AskFault.TheVariants.{Line, Memory as OutOfMemory};
 ghost use Rattle.kt_program.specs.declared.line.Asked.{Asked};
 
-use crate::line::{Asked, Drawing, Run};
+use crate::line::{Asked, Drawing, Judging, Run};
 use crate::words::Words;
 use clap::error::ErrorKind;
 use clap::{Arg, ArgAction, ArgMatches, Command, Error, value_parser};
@@ -78,10 +78,10 @@ const LIVE: &str = "Runs a scenario in threads, and prints a report of the run
 Runs a scenario, each object in a thread of its own, and prints a report of the
 run. Which steps come first is left to the threads.";
 
-const CHECK: &str = "Judges a stored log with its certificates
-Judges a stored log with its certificates, and prints one line: yes, or no with
-the instance, the row and the reason. A yes means that each committed instance
-took the least set of processes.";
+const CHECK: &str = "Judges a stored log
+Judges a stored log with its certificates, or with those that the log means, and
+prints one line: yes, or no with the instance, the row and the reason. A yes means
+that each committed instance took the least set of processes.";
 
 const LOG: &str = "The log, a CSV file with a record of four fields for each row
 The log, a CSV file with a record of four fields for each row.
@@ -92,12 +92,19 @@ to 2^20 rows.";
 const CERT: &str = "The certificates, a CSV file with records of five fields
 The certificates, a CSV file with records of five fields: a cert
 record for each decided instance, followed by its member records.
-There are up to 2^19 records.";
+There are up to 2^19 records. Without them the log is judged by
+those that it means, which certify makes.";
 
-const EXPLAIN: &str = "Tells below a no why
-Tells below a no why, by process, message and row: what the log
-has otherwise than a certificate, who was unwilling to join, which
-member is another one, which message is an orphan.";
+const EXPLAIN: &str = "Tells below the answer what it rests on
+Tells below a no why, by process, message and row: which demand is
+broken, what the log means otherwise than a certificate, who was
+unwilling to join, which message is an orphan. Below a yes it tells
+what was judged, and what the log leaves open.";
+
+const AT_REST: &str = "Asks that the run came to rest, too
+Asks that the run came to rest, too: that no instance is undecided,
+no process in one, and no message in transit. Where all else passes
+and that does not, the answer is no open.";
 
 const CERTIFY: &str = "Writes the certificates of a stored log
 Writes the certificates of a stored log: for each decided instance its kind, its
@@ -171,6 +178,13 @@ fn wanted<'a>(alloc: Global, id: &'a str, name: &'a str, help: &'a str) -> Arg<'
     ensures { IsRule (wanted id.entry.now) result }
 {
     with_help(Arg::new(alloc, id).required(true).value_name(name), help)
+}
+
+// A word that may be there.
+fn possible<'a>(alloc: Global, id: &'a str, name: &'a str, help: &'a str) -> Arg<'a>
+    ensures { IsRule (possible id.entry.now) result }
+{
+    with_help(Arg::new(alloc, id).value_name(name), help)
 }
 
 // An option with a value.
@@ -267,8 +281,9 @@ fn check_command<'a>(alloc: Global) -> Defined<'a>
     ensures { IfOk result (IsDefined check) }
 {
     let command = command_of(alloc, "check", CHECK, wanted(alloc, "log", "LOG", LOG));
-    let command = with_arg(command, wanted(alloc, "cert", "CERT", CERT));
+    let command = with_arg(command, possible(alloc, "cert", "CERT", CERT));
     let command = with_arg(command, switch(alloc, "explain", EXPLAIN));
+    let command = with_arg(command, switch(alloc, "at-rest", AT_REST));
     with_hints(alloc, command)
 }
 
@@ -383,16 +398,33 @@ fn asked_of_live<'a>(matches: &ArgMatches<'a>) -> Option<Asked<'a>>
     }
 }
 
+// Whether an option without a value is given.
+fn is_set(matches: &ArgMatches<'_>, id: &str) -> bool
+    ensures { MatchBool result (IsSet id.now (rows_of (found_of matches.now)))
+        (¬ IsSet id.now (rows_of (found_of matches.now))) }
+{
+    match text_of(matches, id) {
+        Some("true") => true,
+        _ => false,
+    }
+}
+
 // What the matches of `check` ask for.
 fn asked_of_check<'a>(matches: &ArgMatches<'a>) -> Option<Asked<'a>>
     ensures named { IfSome result (NamesIn (codes "check") (rows_of (found_of matches.now))) }
     ensures nothing { IfNone result ((asked : Asked) → ¬ NamesIn (codes "check") (rows_of (found_of matches.now)) asked) }
 {
     let log = text_of(matches, "log")?;
-    let cert = text_of(matches, "cert")?;
-    match text_of(matches, "explain") {
-        Some("true") => Some(Asked::Explain { log, cert }),
-        _ => Some(Asked::Check { log, cert }),
+    let explains = is_set(matches, "explain");
+    let at_rest = is_set(matches, "at-rest");
+    match text_of(matches, "cert") {
+        Some(cert) if !explains && !at_rest => Some(Asked::Check { log, cert }),
+        cert => Some(Asked::Judge(Judging {
+            log,
+            cert,
+            explains,
+            at_rest,
+        })),
     }
 }
 

@@ -9,9 +9,9 @@ ghost use Rattle.kt_checker.specs.declared.verdict.Verdict.{Verdict as Verdicts}
 ghost use Rattle.kt_checker.specs.Streamed.{IsAnswerOf};
 ghost use Rattle.kt_program.specs.declared.fault.AppFault.TheVariants as app;
 ghost use Rattle.kt_program.specs.Ending.{IsOfJudging, LeavesAnswer};
-ghost use Rattle.kt_program.specs.Explained.{explained_text};
 ghost use Rattle.kt_program.specs.Stored.{IsExact, IsRefusal, IsVerdictOf, JudgesFiles, is_yes, of_log, records_told, verdict_line};
 
+use crate::answer::{Answer, answer_text};
 use crate::fault::{AppFailure, AppFault, Failure};
 use crate::outputs::{deliver, write_text};
 use crate::sources::{Input, ReadFiles, Role, open_input};
@@ -51,8 +51,9 @@ pub fn check_bytes<L: Read + Drop, C: Read + Drop, W: Write>(
     let cert = Input::new(cert_reader, "");
     match judge_texts(alloc, log, cert) {
         Ok(verdict) => {
-            write_text(answer_text(alloc, &verdict, "")?.as_slice(), writer)?;
-            Ok(is_yes(&verdict))
+            let answer = Answer::Checked(verdict);
+            write_text(answer_text(alloc, &answer, "")?.as_slice(), writer)?;
+            Ok(answer.passes())
         }
         Err(failure) => Err(failure.fault),
     }
@@ -97,31 +98,6 @@ fn judge_log<L: Read + Drop>(
     }
 }
 
-pub(crate) fn is_yes(verdict: &Verdict) -> bool
-    ensures { result ≡ is_yes verdict.now }
-{
-    match verdict {
-        Verdict::Yes => true,
-        Verdict::No { .. } => false,
-    }
-}
-
-/// The line of an answer, with these lines below it.
-pub(crate) fn answer_text(
-    alloc: Global,
-    verdict: &Verdict,
-    lines: &str,
-) -> Result<Vec<u8>, AppFault>
-    ensures text { IfOk result (λ text. text.items ≡ explained_text verdict.now lines.now) }
-    ensures fault { IfErr result (λ e. e ≡ app.Memory) }
-{
-    let mut text = Vec::new(alloc);
-    match write!(text, "{verdict}\n{lines}") {
-        Ok(()) => Ok(text),
-        Err(_) => Err(AppFault::Memory),
-    }
-}
-
 /// Judges the log and the certificates in these files; true for a yes.
 #[inline(never)]
 pub(crate) fn check_files<F: Files, O: Write>(
@@ -139,8 +115,8 @@ pub(crate) fn check_files<F: Files, O: Write>(
     let mut read = ReadFiles::default();
     let log = open_input(files, Role::Log, log, &mut read)?;
     let cert = open_input(files, Role::Certificates, cert, &mut read)?;
-    let verdict = judge_texts(alloc, log, cert)?;
-    let text = answer_text(alloc, &verdict, "")?;
+    let answer = Answer::Checked(judge_texts(alloc, log, cert)?);
+    let text = answer_text(alloc, &answer, "")?;
     deliver(files, &read, text.as_slice(), None, out)?;
-    Ok(is_yes(&verdict))
+    Ok(answer.passes())
 }

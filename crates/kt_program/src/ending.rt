@@ -19,10 +19,8 @@ const MAX_LINE: usize = 128;
 /// What the program did.
 #[derive(Clone, Copy, Debug, PartialEq, Eq)]
 pub enum Done {
-    /// It wrote the checker's answer; true for a yes.
+    /// It wrote the answer to a stored log; true for a yes.
     Judged(bool),
-    /// It wrote the checker's answer and what is told of it; true for a yes.
-    Explained(bool),
     /// It played a run and wrote its report.
     Played,
     /// It wrote the certificates of a stored log.
@@ -39,7 +37,7 @@ impl Done {
         ensures { result ≡ done_status self }
     {
         match self {
-            Done::Judged(passed) | Done::Explained(passed) => u8::from(!passed),
+            Done::Judged(passed) => u8::from(!passed),
             Done::Played | Done::Certified | Done::Drawn | Done::Shown => 0,
         }
     }

@@ -4,28 +4,31 @@
 //! **What to change where:** the command line `ask.rt`, `line.rt`, `words.rt`; names of files that clash `names.rt`,
 //! files that are the same `files.rt`, outputs `outputs.rt`; closed streams `streams.rt`; a scenario run from its
 //! files `running.rt`, over new objects `runs.rt` (`specs/Made`), over given ones `played.rt`; its objects
-//! `casts.rt`, its texts `inputs.rt`, that it lost no message `laws.rt`; a stored run `checked.rt`, what is told of
-//! its answer `explained.rt`; a stored log certified `certified.rt`, from its file `certifying.rt`, or drawn
-//! `drawn.rt`, from its file `drawing.rt`; faults `fault.rt`; statuses `ending.rt`; what a person is told of a fault
+//! `casts.rt`, its texts `inputs.rt`, that it lost no message `laws.rt`; a stored run `checked.rt`, a log alone, or
+//! with what is told of the answer, `judging.rt`, the answer `answer.rt`, the lines of what is read `numbered.rt`; a
+//! stored log certified `certified.rt`, or drawn
+//! `drawn.rt`; faults `fault.rt`; statuses `ending.rt`; what a person is told of a fault
 //! `told.rt`, in words `hints.rt`, of a record `forms.rt`, at which line it stands `places.rt`, texts of others
 //! `shown.rt`; the whole `program.rt`.
 #![tactic(auto)]
 
+mod answer;
 pub mod ask;
 pub mod casts;
 pub mod certified;
 pub mod checked;
 pub mod drawn;
 pub mod ending;
-pub mod explained;
 pub mod fault;
 mod files;
 pub mod forms;
 mod hints;
 pub mod inputs;
+mod judging;
 pub mod laws;
 pub mod line;
 pub mod names;
+mod numbered;
 pub mod outputs;
 mod places;
 pub mod played;
@@ -47,7 +50,7 @@ pub use ending::{Done, end, write_fault};
 pub use fault::{AppFailure, AppFault, Failure, ProgramFault};
 pub use inputs::{read_scenario, read_steps};
 pub use laws::no_message_is_lost;
-pub use line::{Asked, By, Drawing, Run};
+pub use line::{Asked, By, Drawing, Judging, Run};
 pub use names::{clash, is_device};
 pub use outputs::Output;
 pub use played::{live_plan, play_plan};

@@ -56,11 +56,8 @@ pub enum Asked<'a> {
         log: &'a str,
         cert: &'a str,
     },
-    /// Judge a stored log with its certificates, and tell of the answer.
-    Explain {
-        log: &'a str,
-        cert: &'a str,
-    },
+    /// Judge a stored log alone, or tell of the answer, or ask that it came to rest.
+    Judge(Judging<'a>),
     /// Certify a stored log, and write its certificates where that is asked, else to standard output.
     Certify {
         log: &'a str,
@@ -68,6 +65,18 @@ pub enum Asked<'a> {
     },
     /// Draw rows of a stored log.
     Draw(Drawing<'a>),
+}
+
+/// A stored log that is to be judged.
+#[derive(Clone, Copy)]
+pub struct Judging<'a> {
+    pub log: &'a str,
+    /// Its certificates; those that it means, where none are named.
+    pub cert: Option<&'a str>,
+    /// Whether the answer is told of.
+    pub explains: bool,
+    /// Whether a log that leaves an instance open or a message in transit is a no.
+    pub at_rest: bool,
 }
 
 /// A picture that is asked for: of which log, with which certificates, with the names of which scenario's objects, of which
@@ -134,9 +143,8 @@ impl<'a> Asked<'a> {
                 [Some(run.scenario), run.steps, None],
                 [run.log, run.cert, run.kept],
             ),
-            Asked::Check { log, cert } | Asked::Explain { log, cert } => {
-                ([Some(log), Some(cert), None], [None; 3])
-            }
+            Asked::Check { log, cert } => ([Some(log), Some(cert), None], [None; 3]),
+            Asked::Judge(asked) => ([Some(asked.log), asked.cert, None], [None; 3]),
             Asked::Certify { log, cert } => ([Some(log), None, None], [cert, None, None]),
             Asked::Draw(asked) => (
                 [Some(asked.log), asked.names, asked.cert],

@@ -15,8 +15,8 @@ use crate::certified::certify_files;
 use crate::checked::check_files;
 use crate::drawn::draw_files;
 use crate::ending::{Done, end, end_told};
-use crate::explained::explain_files;
 use crate::fault::{AppFault, Failure, ProgramFault};
+use crate::judging::judge_files;
 use crate::line::{Asked, Run};
 use crate::running::run_files;
 use crate::streams::StandIns;
@@ -83,7 +83,7 @@ pub fn carry_out<F: Files + Threads + Wait + Sync, O: Write>(
     ensures output { LeavesOutput words.now result (O.contents out.old) (O.contents out.new) }
     // A scenario that is played begins with the steps of the file that the words name.
     ensures played { IfOk result (PlayedFor words.now F.File.remaining (O.contents out.old) (O.contents out.new)) }
-    // The answer that is written is the checker's to the bytes of two files, and what is told of it is so.
+    // The answer that is written is that to the bytes of the files, and what is told of it is so.
     ensures judged { IfOk result (JudgedFor words.now F.File.remaining (O.contents out.old) (O.contents out.new)) }
     // The certificates that are written are those of the rows that a file says, and go where the words ask.
     ensures certified { IfOk result (CertifiedFor words.now F.File.remaining (O.contents out.old) (O.contents out.new)) }
@@ -112,8 +112,8 @@ pub fn carry_out<F: Files + Threads + Wait + Sync, O: Write>(
             Ok(passed) => Ok(Done::Judged(passed)),
             Err(failure) => Err(failure),
         },
-        Ok(Asked::Explain { log, cert }) => match explain_files(files, alloc, log, cert, out) {
-            Ok(passed) => Ok(Done::Explained(passed)),
+        Ok(Asked::Judge(judging)) => match judge_files(files, alloc, &judging, out) {
+            Ok(passed) => Ok(Done::Judged(passed)),
             Err(failure) => Err(failure),
         },
         Ok(Asked::Certify { log, cert }) => {

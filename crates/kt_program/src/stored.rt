@@ -7,7 +7,7 @@ ghost use Rattle.kt_chain.specs.declared.fault.CertTextFault.{CertTextFault as C
 ghost use Rattle.kt_chain.specs.Texts as certs;
 ghost use Rattle.kt_checker.specs.Streamed.{SaysRows};
 ghost use Rattle.kt_program.specs.declared.fault.AppFault.TheVariants as app;
-ghost use Rattle.kt_program.specs.Explained.{Say};
+ghost use Rattle.kt_program.specs.Judging.{Say};
 ghost use Rattle.kt_program.specs.Stored.{IsRefusal, SayCertificates, of_cert, of_log, records_told};
 
 use crate::fault::{AppFailure, AppFault};
@@ -54,8 +54,11 @@ pub(crate) fn read_stored<L: Read + Drop, C: Read + Drop>(
     }
 }
 
-// The log that an input tells.
-fn read_log<L: Read + Drop>(alloc: Global, log: Input<L>) -> Result<SpaceTime, AppFailure>
+/// The log that an input tells.
+pub(crate) fn read_log<L: Read + Drop>(
+    alloc: Global,
+    log: Input<L>,
+) -> Result<SpaceTime, AppFailure>
     ensures read { IfOk result (λ read. SaysRows (L.remaining log.source) read.rows) }
     ensures fault { IfErr result (λ failure. (f : LogFaults) × (failure.fault ≡ of_log f)
         × IfSome (records_told (L.remaining log.source)) (λ text. rows.IsFirstLogFault text f)) }

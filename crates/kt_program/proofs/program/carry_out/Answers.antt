@@ -1,7 +1,7 @@
 use Rattle.std.proofs.Common.{subst}
 use Rattle.clap.specs.Words.{subcommand_of}
 use Rattle.kt_program.specs.declared.line.Asked.{Asked}
-use Rattle.kt_program.specs.declared.line.Asked.TheVariants.{Check, Draw, Explain, Play, Run}
+use Rattle.kt_program.specs.declared.line.Asked.TheVariants.{Check, Draw, Judge, Play, Run}
 use Rattle.kt_program.specs.Made.{played_run}
 use Rattle.kt_program.specs.Names.{IsApart}
 use Rattle.kt_program.specs.Program.{NamesAsked, program as definition}
@@ -79,26 +79,26 @@ returns-in-Ok-Check-clause-words g c =
     let apart = subst IsApart a.field-0-is a.ensures.apart in
     unjudged c.args.words.now (Check a.log a.cert) named apart c.in-Err.failure.fault c.in-Err.ensures.fault
 
-pub returns-in-Ok-explain_files-clause-words : goal.returns-in-Ok-explain_files-clause-words
-returns-in-Ok-explain_files-clause-words g c =
-    let a = c.in-Ok-Explain in
+pub returns-in-Ok-judge_files-clause-words : goal.returns-in-Ok-judge_files-clause-words
+returns-in-Ok-judge_files-clause-words g c =
+    let a = c.in-Ok-Judge in
     let named = subst (λ (x : Asked). NamesAsked (subcommand_of definition c.args.words.now) x) a.field-0-is a.ensures.named in
     let apart = subst IsApart a.field-0-is a.ensures.apart in
-    (Explain a.log a.cert, named, apart, tt)
+    (Judge a.judging, named, apart, tt)
 
-pub returns-in-Ok-explain_files-clause-judged : goal.returns-in-Ok-explain_files-clause-judged
-returns-in-Ok-explain_files-clause-judged g c =
-    let a = c.in-Ok-Explain in
+pub returns-in-Ok-judge_files-clause-judged : goal.returns-in-Ok-judge_files-clause-judged
+returns-in-Ok-judge_files-clause-judged g c =
+    let a = c.in-Ok-Judge in
     let named = subst (λ (x : Asked). NamesAsked (subcommand_of definition c.args.words.now) x) a.field-0-is a.ensures.named in
     let apart = subst IsApart a.field-0-is a.ensures.apart in
-    (Explain a.log a.cert, named, apart, c.in-Ok-explain_files.ensures.explained)
+    (Judge a.judging, named, apart, c.in-Ok-judge_files.ensures.judged)
 
-pub returns-in-Ok-Explain-clause-words : goal.returns-in-Ok-Explain-clause-words
-returns-in-Ok-Explain-clause-words g c =
-    let a = c.in-Ok-Explain in
+pub returns-in-Ok-Judge-clause-words : goal.returns-in-Ok-Judge-clause-words
+returns-in-Ok-Judge-clause-words g c =
+    let a = c.in-Ok-Judge in
     let named = subst (λ (x : Asked). NamesAsked (subcommand_of definition c.args.words.now) x) a.field-0-is a.ensures.named in
     let apart = subst IsApart a.field-0-is a.ensures.apart in
-    unjudged c.args.words.now (Explain a.log a.cert) named apart c.in-Err-explain_files.failure.fault c.in-Err-explain_files.ensures.fault
+    unjudged c.args.words.now (Judge a.judging) named apart c.in-Err-judge_files.failure.fault c.in-Err-judge_files.ensures.fault
 
 pub returns-in-Ok-Draw-clause-words : goal.returns-in-Ok-Draw-clause-words
 returns-in-Ok-Draw-clause-words g c =
