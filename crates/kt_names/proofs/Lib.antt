@@ -1,0 +1,4 @@
+pub mod PlaceFacts
+pub mod GivenFacts
+pub mod NumberedFacts
+pub mod LegalNames

@@ -1,0 +1,11 @@
+pub use Rattle.kt_base.specs.Numbers
+pub use Rattle.kt_text.specs.Words
+pub use Rattle.kt_text.specs.Writing
+pub use Rattle.kt_names.specs.Counts
+pub use Rattle.kt_names.specs.Rows
+pub mod PartSlot
+pub mod Spelling
+pub mod Texts
+pub mod Reading
+pub mod Progress
+pub mod FaultTexts
