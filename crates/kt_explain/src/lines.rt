@@ -5,9 +5,8 @@ ghost use Rattle.kt_chain.specs.Spelling.{HasShortChains, certificate_records, r
 
 use crate::compared::Differs;
 use crate::explanation::Explanation;
-use kt_base::{InstNo, Memory};
+use kt_base::{InstNo, Memory, RowNo};
 use kt_chain::{Certificate, write_certs};
-use kt_checker::Verdict;
 use kt_log_text::write_csv;
 use kt_spacetime::{Event, SpaceTime};
 use std::alloc::Global;
@@ -26,7 +25,8 @@ pub struct Told<'a> {
     pub alloc: Global,
     pub log: &'a SpaceTime,
     pub certificates: &'a [Certificate],
-    pub verdict: &'a Verdict,
+    /// The row that the answer names.
+    pub row: Option<RowNo>,
     pub explanation: &'a Explanation,
     /// The file of the log, of which the last records are the rows.
     pub rows: Lines<'a>,
@@ -36,7 +36,7 @@ pub struct Told<'a> {
 
 impl fmt::Display for Told<'_> {
     fn fmt<W: fmt::Write>(&self, f: &mut fmt::Formatter<W>) -> fmt::Result {
-        let Ok(row) = row_line(self.alloc, self.log.rows(), &self.rows, self.verdict) else {
+        let Ok(row) = row_line(self.alloc, self.log.rows(), &self.rows, self.row) else {
             return Err(fmt::Error);
         };
         let certificates = self.certificates;
@@ -54,13 +54,9 @@ fn row_line(
     alloc: Global,
     rows: &[Event],
     lines: &Lines,
-    verdict: &Verdict,
+    row: Option<RowNo>,
 ) -> Result<String, Memory> {
-    let Verdict::No {
-        row: Some(number),
-        ..
-    } = *verdict
-    else {
+    let Some(number) = row else {
         return Ok(String::new(alloc));
     };
     let before = number.get() as usize - 1;

@@ -9,7 +9,8 @@ use Rattle.kt_certify.specs.Certificates.{certificates}
 use Rattle.kt_report.specs.Exact.{report_of}
 use Rattle.kt_plans.specs.Follows.{FollowsPlan}
 use Rattle.kt_plans.specs.Headline.{IsPromised}
-use Rattle.kt_program.specs.declared.answer.Answer.{Answer}
+use Rattle.kt_judge.specs.Answers.{passes}
+use Rattle.kt_judge.specs.declared.answer.Answer.{Answer}
 use Rattle.kt_program.specs.declared.ending.Done.{Done}
 use Rattle.kt_program.specs.declared.ending.Done.TheVariants.{Judged, Played, Certified, Drawn, Shown}
 use Rattle.kt_program.specs.declared.fault.AppFault.TheVariants as app
@@ -29,7 +30,7 @@ use Rattle.kt_program.specs.Names.{Name}
 use Rattle.kt_program.specs.Played.{OverNew}
 use Rattle.kt_program.specs.Made.{IsMadeAs, lived_run, order_by, played_run}
 use Rattle.kt_program.specs.Status.{ended_status}
-use Rattle.kt_program.specs.Stored.{BytesTold, JudgesFiles, answer_text, passes}
+use Rattle.kt_program.specs.Stored.{BytesTold, JudgesFiles, answer_text}
 
 -- an answer and lines below it, which is a yes exactly where this is true
 abbrev pub AppendsAnswer : Bool → BytesTold → BytesTold → Type 0

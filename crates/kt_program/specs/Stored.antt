@@ -1,5 +1,5 @@
 -- What the program answers to a stored log with its certificates.
-use Rattle.std.specs.Prelude.{◌≡◌, ◌≢◌, ◌↔◌, ℕ, Bool, true, false, Option, List, [], ◌∷◌, ◌++◌, IfSome, codes}
+use Rattle.std.specs.Prelude.{◌≡◌, ◌≢◌, ◌↔◌, ℕ, Bool, true, false, Option, List, [], ◌∷◌, ◌++◌, IfSome}
 use Rattle.std.specs.Io.KnownBytes.{Appends}
 use Rattle.kt_spacetime.specs.declared.event.Event.{Event}
 use Rattle.kt_log_text.specs.declared.fault.LogFault.{LogFault}
@@ -10,14 +10,13 @@ use Rattle.kt_chain.specs.declared.certificate.Certificate.{Certificate}
 use Rattle.kt_chain.specs.declared.fault.CertTextFault.{CertTextFault}
 use Rattle.kt_chain.specs.declared.fault.CertTextFault.TheVariants as cert
 use Rattle.kt_chain.specs.Texts as certs
-use Rattle.kt_certify.specs.FaultTexts.{unfit_text}
 use Rattle.kt_checker.specs.declared.verdict.Verdict.{Verdict}
 use Rattle.kt_checker.specs.declared.verdict.Verdict.TheVariants.{Yes, No}
 use Rattle.kt_checker.specs.Passing.{IsPassed}
 use Rattle.kt_checker.specs.Streamed.{IsAnswerOf, SaysRows}
 use Rattle.kt_checker.specs.Words.{verdict_words}
-use Rattle.kt_program.specs.declared.answer.Answer.{Answer}
-use Rattle.kt_program.specs.declared.answer.Answer.TheVariants.{Checked, Unlinked, Open}
+use Rattle.kt_judge.specs.Answers.{answer_words}
+use Rattle.kt_judge.specs.declared.answer.Answer.{Answer}
 use Rattle.kt_program.specs.declared.fault.AppFault.{AppFault}
 use Rattle.kt_program.specs.declared.fault.AppFault.TheVariants as app
 
@@ -50,19 +49,7 @@ IsExact log cert passed =
     IfSome (records_told log) (λ text. (read : List Event) → rows.IsLogText text read
     → IfSome (records_told cert) (λ also. (certificates : List Certificate) → certs.IsCertText also certificates → (passed ≡ true) ↔ IsPassed read certificates))
 
--- whether an answer is a yes
-abbrev pub passes : Answer → Bool
-passes (Checked verdict) = is_yes verdict
-passes (Unlinked why) = false
-passes Open = false
-
--- its words: the checker's, why the log means no certificates, or that it leaves something open
-abbrev pub answer_words : Answer → List ℕ
-answer_words (Checked verdict) = verdict_words verdict
-answer_words (Unlinked why) = unfit_text why
-answer_words Open = codes "no open"
-
--- its line, and the lines below it
+-- the line of an answer, and the lines below it
 abbrev pub answer_text : Answer → List ℕ → List ℕ
 answer_text answer lines = answer_words answer ++ 10 ∷ lines
 

@@ -9,15 +9,15 @@ ghost use Rattle.kt_checker.specs.declared.verdict.Verdict.{Verdict as Verdicts}
 ghost use Rattle.kt_checker.specs.Streamed.{IsAnswerOf};
 ghost use Rattle.kt_program.specs.declared.fault.AppFault.TheVariants as app;
 ghost use Rattle.kt_program.specs.Ending.{IsOfJudging, LeavesAnswer};
-ghost use Rattle.kt_program.specs.Stored.{IsExact, IsRefusal, IsVerdictOf, JudgesFiles, is_yes, of_log, records_told, verdict_line};
+ghost use Rattle.kt_program.specs.Stored.{IsExact, IsRefusal, IsVerdictOf, JudgesFiles, answer_text, is_yes, of_log, records_told, verdict_line};
 
-use crate::answer::{Answer, answer_text};
 use crate::fault::{AppFailure, AppFault, Failure};
 use crate::outputs::{deliver, write_text};
 use crate::sources::{Input, ReadFiles, Role, open_input};
 use crate::stored::{log_failure, read_certificates};
 use kt_chain::Certificate;
 use kt_checker::{Verdict, check_rows};
+use kt_judge::Answer;
 use kt_log_text::RowReader;
 use std::alloc::Global;
 use std::io::{Read, Write};
@@ -95,6 +95,18 @@ fn judge_log<L: Read + Drop>(
     match check_rows(alloc, &mut rows, certificates) {
         Ok(verdict) => Ok(verdict),
         Err(fault) => Err(log_failure(&rows, fault)),
+    }
+}
+
+/// The line of an answer, with these lines below it.
+pub(crate) fn answer_text(alloc: Global, answer: &Answer, lines: &str) -> Result<Vec<u8>, AppFault>
+    ensures text { IfOk result (λ text. text.items ≡ answer_text answer.now lines.now) }
+    ensures fault { IfErr result (λ e. e ≡ app.Memory) }
+{
+    let mut text = Vec::new(alloc);
+    match write!(text, "{answer}\n{lines}") {
+        Ok(()) => Ok(text),
+        Err(_) => Err(AppFault::Memory),
     }
 }
 

@@ -1,35 +1,25 @@
 //! Stored logs judged, by the certificates that are named or by those that they mean, and the answers told of.
 
-ghost use Rattle.std.specs.Prelude.{◌≡◌, ◌^◌, ◌≤◌, ℕ, None, Option, List, [], false, IfOk, IfErr, IfSome, IsSome, MatchBool, length, option_map, true};
-ghost use Rattle.kt_certify.specs.Faults.{IsWhyUnfit};
-ghost use Rattle.kt_certify.specs.declared.fault.CertFault.TheVariants as cert;
-ghost use Rattle.kt_chain.specs.declared.certificate.Certificate.{Certificate as Certificates};
-ghost use Rattle.kt_checker.specs.Order.{IsCheckerAnswer};
+ghost use Rattle.std.specs.Prelude.{◌≡◌, ℕ, None, List, [], false, IfOk, IfErr, IfSome, IsSome, option_map};
 ghost use Rattle.kt_checker.specs.Streamed.{SaysRows};
-ghost use Rattle.kt_checker.specs.declared.verdict.Verdict.{Verdict as Verdicts};
-ghost use Rattle.kt_checker.specs.declared.verdict.Verdict.TheVariants.{Yes};
-ghost use Rattle.kt_explain.specs.Told.{IsExplanation};
-ghost use Rattle.kt_explain.specs.declared.explanation.Explanation.{Explanation as Explanations};
-ghost use Rattle.kt_spacetime.specs.declared.event.Event.{Event as Events};
-ghost use Rattle.kt_program.specs.declared.answer.Answer.{Answer as Answers};
+ghost use Rattle.kt_judge.specs.Answers.{passes};
+ghost use Rattle.kt_judge.specs.declared.answer.Answer.{Answer as Answers};
 ghost use Rattle.kt_program.specs.declared.fault.AppFault.TheVariants as app;
 ghost use Rattle.kt_program.specs.Ending.{IsOfJudging, LeavesAnswer};
-ghost use Rattle.kt_program.specs.Judging.{AnswersFiles, AreOfFiles, IsAnswered, IsAnswerBy, IsAtRest, IsBasis, Say};
-ghost use Rattle.kt_program.specs.Stored.{answer_text, passes};
+ghost use Rattle.kt_program.specs.Judging.{AnswersFiles, AreOfFiles, IsAnswered, Say};
+ghost use Rattle.kt_program.specs.Stored.{answer_text};
 
-use crate::answer::{Answer, answer_text};
+use crate::checked::answer_text;
 use crate::fault::{AppFailure, AppFault, Failure};
 use crate::line::Judging;
-use crate::numbered::{Numbered, RecordLines};
 use crate::outputs::deliver;
 use crate::shown::Shown;
 use crate::sources::{Input, ReadFiles, Role, open_input};
 use crate::stored::{read_log, read_stored};
-use kt_certify::{CertFault, Unfit, certify};
 use kt_chain::Certificate;
-use kt_checker::{Verdict, check};
-use kt_explain::{Explanation, Lines, Sought, Told, explain, first_number};
-use kt_spacetime::{Event, SpaceTime};
+use kt_explain::{Lines, Told};
+use kt_judge::{Numbered, RecordLines, judge};
+use kt_spacetime::SpaceTime;
 use std::alloc::Global;
 use std::fmt::Display;
 use std::io::{Read, Write};
@@ -42,13 +32,6 @@ struct LogToJudge {
     named: Option<Vec<Certificate>>,
     rows: RecordLines,
     records: RecordLines,
-}
-
-// The certificates by which a log is judged; or none, where it means none, and why it means none.
-#[derive(Drop)]
-struct Basis {
-    certificates: Vec<Certificate>,
-    unlinked: Option<Unfit>,
 }
 
 // The text of an answer with what is told of it, and whether it is a yes.
@@ -163,18 +146,14 @@ fn answer_to(alloc: Global, stored: LogToJudge, asked: &Judging<'_>) -> Result<A
         rows,
         records,
     } = stored;
-    let basis = basis_of(alloc, &log, named)?;
-    let certificates = basis.certificates.as_slice();
-    let verdict = check(alloc, &log, certificates)?;
-    let explanation = explanation_of(alloc, &log, certificates, &verdict, asked)?;
-    let answer = answer_by(basis.unlinked, verdict, &explanation, asked.at_rest);
+    let judgement = judge(alloc, &log, named, asked.explains, asked.at_rest)?;
     let (log_name, cert_name) = names_of(alloc, asked)?;
     let told = Told {
         alloc,
         log: &log,
-        certificates,
-        verdict: &verdict,
-        explanation: &explanation,
+        certificates: judgement.certificates.as_slice(),
+        row: judgement.answer.row(),
+        explanation: &judgement.explanation,
         rows: Lines {
             name: log_name.as_str(),
             of: rows.of.as_slice(),
@@ -186,8 +165,8 @@ fn answer_to(alloc: Global, stored: LogToJudge, asked: &Judging<'_>) -> Result<A
     };
     let lines = lines_of(alloc, &told, asked.explains)?;
     Ok(Answered {
-        text: answer_text(alloc, &answer, lines.as_str())?,
-        passed: answer.passes(),
+        text: answer_text(alloc, &judgement.answer, lines.as_str())?,
+        passed: judgement.answer.passes(),
     })
 }
 
@@ -207,117 +186,6 @@ fn text_of<D: Display>(alloc: Global, value: &D) -> Result<String, AppFault>
     match format!(in alloc; "{value}") {
         Ok(text) => Ok(text),
         Err(_) => Err(AppFault::Memory),
-    }
-}
-
-// The certificates that are named, or else those that a log means.
-fn basis_of(
-    alloc: Global,
-    log: &SpaceTime,
-    named: Option<Vec<Certificate>>,
-) -> Result<Basis, AppFault>
-    ensures basis { IfOk result (λ basis. IsBasis log.now.rows (option_map (λ list. list.items) named)
-        basis.unlinked basis.certificates.items) }
-    ensures fault { IfErr result (λ e. e ≡ app.Memory) }
-{
-    match named {
-        Some(certificates) => Ok(Basis {
-            certificates,
-            unlinked: None,
-        }),
-        None => meant(alloc, log),
-    }
-}
-
-// The certificates that a log means; none where it breaks a rule, and why it means none where that is no rule.
-fn meant(alloc: Global, log: &SpaceTime) -> Result<Basis, AppFault>
-    ensures basis { IfOk result (λ basis. IsBasis log.now.rows None basis.unlinked basis.certificates.items) }
-    ensures fault { IfErr result (λ e. e ≡ app.Memory) }
-{
-    let unlinked = match certify(alloc, log) {
-        Ok(certificates) => {
-            return Ok(Basis {
-                certificates,
-                unlinked: None,
-            });
-        }
-        Err(fault) => why_unlinked(log.rows(), fault)?,
-    };
-    Ok(Basis {
-        certificates: Vec::new(alloc),
-        unlinked,
-    })
-}
-
-// Why a log that is not fit means no certificates, if it breaks no rule; with the row that decides the instance.
-fn why_unlinked(rows: &[Event], fault: CertFault) -> Result<Option<Unfit>, AppFault>
-    requires few { length rows.now ≤ 2 ^ 24 }
-    requires unfit { IsWhyUnfit rows.now fault }
-    ensures basis { IfOk result (λ why. IsBasis rows.now None why []) }
-    ensures fault { IfErr result (λ e. e ≡ app.Memory) }
-{
-    match fault {
-        CertFault::BadLog(..) => Ok(None),
-        CertFault::NoChain(inst, p) => match first_number(rows, &Sought::Decided(inst)) {
-            Some(row) => Ok(Some(Unfit::NoChain(inst, row, p))),
-            None => Ok(None),
-        },
-        CertFault::Memory => Err(AppFault::Memory),
-    }
-}
-
-// What is told of the checker's answer, where it is to be told, or is asked what the log leaves open.
-fn explanation_of(
-    alloc: Global,
-    log: &SpaceTime,
-    certificates: &[Certificate],
-    verdict: &Verdict,
-    asked: &Judging<'_>,
-) -> Result<Explanation, AppFault>
-    requires answer { IsCheckerAnswer log.now.rows certificates.now verdict.now }
-    ensures told { IfOk result (λ e. asked.now.explains ≡ true
-        → IsExplanation log.now.rows certificates.now verdict.now e) }
-    ensures open { IfOk result (λ e. asked.now.at_rest ≡ true
-        → IsExplanation log.now.rows certificates.now verdict.now e) }
-    ensures fault { IfErr result (λ e. e ≡ app.Memory) }
-{
-    if asked.explains || asked.at_rest {
-        Ok(explain(alloc, log, certificates, verdict)?)
-    } else {
-        Ok(Explanation::Nothing)
-    }
-}
-
-// The answer by the checker's, and by what the log leaves open, where that is asked.
-fn answer_by(
-    unlinked: Option<Unfit>,
-    verdict: Verdict,
-    explanation: &Explanation,
-    at_rest: bool,
-) -> Answer
-    ensures { (rows : List Events) (named : Option (List Certificates)) (certificates : List Certificates)
-        → IsBasis rows named unlinked certificates
-        → (at_rest ≡ true → IsExplanation rows certificates verdict explanation.now)
-        → IsAnswerBy rows named at_rest certificates verdict result }
-{
-    if let Some(why) = unlinked {
-        return Answer::Unlinked(why);
-    }
-    if at_rest && leaves_open(explanation) {
-        return Answer::Open;
-    }
-    Answer::Checked(verdict)
-}
-
-// Whether a log passes and leaves an instance open, or a message in transit, by what is told of it.
-fn leaves_open(explanation: &Explanation) -> bool
-    ensures { (rows : List Events) (certificates : List Certificates) (verdict : Verdicts)
-        → IsExplanation rows certificates verdict explanation.now
-        → MatchBool result ((verdict ≡ Yes) × ¬ IsAtRest rows) (verdict ≡ Yes → IsAtRest rows) }
-{
-    match explanation {
-        Explanation::Judged(judged) => judged.open_count > 0 || judged.in_transit > 0,
-        _ => false,
     }
 }
 

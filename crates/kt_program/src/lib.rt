@@ -5,14 +5,12 @@
 //! files that are the same `files.rt`, outputs `outputs.rt`; closed streams `streams.rt`; a scenario run from its
 //! files `running.rt`, over new objects `runs.rt` (`specs/Made`), over given ones `played.rt`; its objects
 //! `casts.rt`, its texts `inputs.rt`, that it lost no message `laws.rt`; a stored run `checked.rt`, a log alone, or
-//! with what is told of the answer, `judging.rt`, the answer `answer.rt`, the lines of what is read `numbered.rt`; a
-//! stored log certified `certified.rt`, or drawn
+//! with what is told of the answer, `judging.rt`; a stored log certified `certified.rt`, or drawn
 //! `drawn.rt`; faults `fault.rt`; statuses `ending.rt`; what a person is told of a fault
 //! `told.rt`, in words `hints.rt`, of a record `forms.rt`, at which line it stands `places.rt`, texts of others
 //! `shown.rt`; the whole `program.rt`.
 #![tactic(auto)]
 
-mod answer;
 pub mod ask;
 pub mod casts;
 pub mod certified;
@@ -28,7 +26,6 @@ mod judging;
 pub mod laws;
 pub mod line;
 pub mod names;
-mod numbered;
 pub mod outputs;
 mod places;
 pub mod played;

@@ -1,6 +1,6 @@
 //! The lines of a text that is read.
 
-ghost use Rattle.std.specs.Prelude.{◌≡◌};
+ghost use Rattle.std.specs.Prelude.{◌≡◌, []};
 
 use std::alloc::Global;
 use std::io;
@@ -9,18 +9,20 @@ use std::io::Read;
 /// On which lines the records of a text begin that is read: of a log and of certificates without a fault on those that are not
 /// empty, since none of their fields has the end of a line.
 #[derive(Drop)]
-pub(crate) struct RecordLines {
+pub struct RecordLines {
     /// The line of each record, from 1.
-    pub(crate) of: Vec<u64>,
+    pub of: Vec<u64>,
     /// Whether there was no memory for one.
-    pub(crate) is_short: bool,
+    pub is_short: bool,
     line: u64,
     is_within: bool,
 }
 
 impl RecordLines {
     /// Those of no text yet.
-    pub(crate) fn new(alloc: Global) -> RecordLines {
+    pub fn new(alloc: Global) -> RecordLines
+        ensures { result.of.items ≡ [] }
+    {
         RecordLines {
             of: Vec::new(alloc),
             is_short: false,
@@ -56,14 +58,14 @@ impl RecordLines {
 
 /// What is read, and on which lines its records begin.
 #[derive(Drop)]
-pub(crate) struct Numbered<R> {
-    pub(crate) source: R,
-    pub(crate) lines: RecordLines,
+pub struct Numbered<R> {
+    pub source: R,
+    pub lines: RecordLines,
 }
 
 impl<R> Numbered<R> {
     /// This reader, before its first byte.
-    pub(crate) fn new(alloc: Global, source: R) -> Numbered<R>
+    pub fn new(alloc: Global, source: R) -> Numbered<R>
         ensures { result.source ≡ source }
     {
         Numbered {

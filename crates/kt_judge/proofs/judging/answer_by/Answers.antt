@@ -1,8 +1,8 @@
 use Rattle.std.proofs.Common.{◌≡◌, Option, refl, subst}
 use Rattle.kt_certify.specs.declared.fault.Unfit.{Unfit}
-use Rattle.kt_program.specs.Judging.{IsBasis}
-use Rattle.kt_program.proofs.judging.answer_by.Goals.{else-at_rest-via-then-at_rest+else-leaves_open, else-at_rest-via-else-at_rest}
-use Rattle.kt_program.proofs.judging.answer_by.Goals as goal
+use Rattle.kt_judge.specs.Judging.{IsBasis}
+use Rattle.kt_judge.proofs.judging.answer_by.Goals.{else-at_rest-via-then-at_rest+else-leaves_open, else-at_rest-via-else-at_rest}
+use Rattle.kt_judge.proofs.judging.answer_by.Goals as goal
 
 pub returns-then-leaves_open : goal.returns-then-leaves_open
 returns-then-leaves_open c = λ rows named list basis told.

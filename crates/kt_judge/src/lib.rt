@@ -1,0 +1,13 @@
+//! A log judged by certificates that are named, or else by those that it means; and whether it came to rest.
+//!
+//! **What to change where:** what is answered `answer.rt`; by what, and when each answer comes `judging.rt`
+//! (`specs/Judging`); on which lines of a text its records begin `numbered.rt`.
+#![tactic(auto)]
+
+mod answer;
+mod judging;
+mod numbered;
+
+pub use answer::Answer;
+pub use judging::{Judgement, judge};
+pub use numbered::{Numbered, RecordLines};

@@ -1,9 +1,0 @@
-use Rattle.std.proofs.Common.{subst}
-use Rattle.kt_certify.specs.Faults.{IsWhyUnfit}
-use Rattle.kt_explain.proofs.Faults.{not_broken}
-use Rattle.kt_program.proofs.judging.why_unlinked.Goals as goal
-
-pub returns-in-BadLog-clause-basis : goal.returns-in-BadLog-clause-basis
-returns-in-BadLog-clause-basis c = λ legal.
-    let broken = subst (IsWhyUnfit c.args.rows.now) c.in-BadLog.is c.requires.unfit in
-    absurd (not_broken c.args.rows.now c.in-BadLog.field-0 c.in-BadLog.field-1 legal broken)
