@@ -1,6 +1,6 @@
 -- What is told of a log that passes: what was judged, and what it leaves open.
-use Rattle.std.specs.Prelude.{◌≡◌, ℕ, ◌<◌, ◌&&◌, ◌||◌, ◌↔◌, not, if◌then◌else◌, Bool, true, false, Option, Some, None, is_none, List, length, slice_get, count_by, Contains}
-use Rattle.std.specs.List.{filter_map, list_any, range_with_len}
+use Rattle.std.specs.Prelude.{◌≡◌, ℕ, ◌<◌, ◌&&◌, ◌||◌, ◌↔◌, not, if◌then◌else◌, Bool, true, false, Option, Some, None, is_none, List, length, count_by, Contains}
+use Rattle.std.specs.List.{AllZip, filter_map, list_any, range_with_len}
 use Rattle.kt_base.specs.Sets.{has}
 use Rattle.kt_spacetime.specs.declared.event.Event.{Event}
 use Rattle.kt_spacetime.specs.declared.event.Event.TheVariants as event
@@ -31,11 +31,9 @@ begun_open s _ = None
 abbrev pub open_instances : List Event → List ℕ
 open_instances rows = filter_map (begun_open (past rows)) rows
 
--- an open instance as it is told, with the processes that are in it; or none, where there is none
-abbrev pub IsOpenInstance : Past → Option ℕ → Option OpenInstance → Type 0
-IsOpenInstance s None None = Unit {0}
-IsOpenInstance s (Some k) (Some o) = (o.inst ≡ k) × ((p : ℕ) → p < 64 → has o.inside p ≡ is_in s p k)
-IsOpenInstance s _ _ = ⊥
+-- an open instance as it is told, with the processes that are in it
+abbrev pub IsOpenInstance : Past → ℕ → OpenInstance → Type 0
+IsOpenInstance s k o = (o.inst ≡ k) × ((p : ℕ) → p < 64 → has o.inside p ≡ is_in s p k)
 
 -- who is to receive the message that a row of this number sent, if it is in transit
 abbrev pub receiver_in_transit : Past → ℕ → Option Event → Option ℕ
@@ -69,10 +67,8 @@ pub record AreDecided (certificates : List Certificate) (kind : Kind) (d : Decid
 
 -- what a log leaves open
 pub record IsLeftOpen (rows : List Event) (l : Judged) : Type 0 where
-  -- how many instances are open, and the first four of them
-  pub count : l.open_count ≡ length (open_instances rows)
-  pub instances : (i : ℕ) (o : Option OpenInstance) → slice_get l.open i ≡ Some o
-      → IsOpenInstance (past rows) (slice_get (open_instances rows) i) o
+  -- the instances that are open, and who is in each
+  pub instances : AllZip (IsOpenInstance (past rows)) (open_instances rows) l.open.items
   -- how many messages are in transit, and to whom
   pub in_transit : l.in_transit ≡ length (receivers_in_transit rows)
   pub receivers : (q : ℕ) → has l.receivers q ≡ true ↔ Contains (receivers_in_transit rows) q

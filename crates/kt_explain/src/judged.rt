@@ -1,12 +1,12 @@
 //! What is told of a log that passes: what was judged, and what it leaves open.
 
-ghost use Rattle.std.specs.Prelude.{◌≡◌, ◌≢◌, ◌≤◌, ◌<◌, ◌+◌, ◌^◌, ◌||◌, ◌↔◌, not, ℕ, List, Option, Some, None, true, length, count_by, slice_get, Contains, IfOk};
+ghost use Rattle.std.specs.Prelude.{◌≡◌, ◌≢◌, ◌≤◌, ◌<◌, ◌+◌, ◌^◌, ◌||◌, ◌↔◌, not, ℕ, List, Some, true, length, count_by, Contains, IfOk};
+ghost use Rattle.std.specs.List.{AllZip};
 ghost use Rattle.kt_base.specs.Sets.{has};
 ghost use Rattle.kt_spacetime.specs.declared.event.Event.{Event as Events};
 ghost use Rattle.kt_cuts.specs.Past.{past};
 ghost use Rattle.kt_cuts.specs.Legal.{IsLegal, is_in};
 ghost use Rattle.kt_histories.specs.HistoriesOf.{HistoriesOf};
-ghost use Rattle.kt_explain.specs.declared.judged.OpenInstance.{OpenInstance as OpenInstances};
 ghost use Rattle.kt_explain.specs.Judged.{AreDecided, IsJudgedSo, IsOpenInstance, is_anyone_in, is_decided, is_left_open, begun_open, open_instances, receiver_in_transit, receivers_in_transit, is_drop};
 
 use crate::breach::before::begun_in;
@@ -33,7 +33,7 @@ pub struct OpenInstance {
 }
 
 /// What was judged, and what is left open.
-#[derive(Clone, Copy, Debug)]
+#[derive(Debug, Drop)]
 pub struct Judged {
     /// How many rows the log has.
     pub rows: usize,
@@ -41,10 +41,8 @@ pub struct Judged {
     pub instances: usize,
     pub checkpoints: Decided,
     pub rollbacks: Decided,
-    /// How many instances are open.
-    pub open_count: usize,
-    /// The first four of them.
-    pub open: [Option<OpenInstance>; 4],
+    /// The open instances, in the order in which they began.
+    pub open: Vec<OpenInstance>,
     /// How many messages are in transit.
     pub in_transit: usize,
     /// The processes that they are sent to.
@@ -62,14 +60,9 @@ impl fmt::Display for Judged {
             "rows {}, instances {}: checkpoints {}, rollbacks {}\n",
             self.rows, self.instances, self.checkpoints, self.rollbacks
         )?;
-        for open in &self.open {
-            if let Some(open) = open {
-                write!(f, "open: instance {}: ", open.inst)?;
-                write_processes(f, open.inside)?;
-            }
-        }
-        if self.open_count > 4 {
-            write!(f, "open: {} more\n", self.open_count - 4)?;
+        for open in self.open.iter() {
+            write!(f, "open: instance {}: ", open.inst)?;
+            write_processes(f, open.inside)?;
         }
         if self.in_transit > 0 {
             write!(f, "in transit: {} to ", self.in_transit)?;
@@ -118,16 +111,14 @@ pub(crate) fn at_end(
 {
     let rows = log.rows();
     let histories = Histories::of(alloc, log, rows.len())?;
-    let list = open_instances(alloc, &histories, rows)?;
-    let insts = list.as_slice();
+    let open = open_instances(alloc, &histories, rows)?;
     let transit = in_transit(&histories, rows);
     Ok(Judged {
         rows: rows.len(),
         instances: begun_in(rows),
         checkpoints: decided_by(certificates, Kind::Checkpoint),
         rollbacks: decided_by(certificates, Kind::Rollback),
-        open_count: insts.len(),
-        open: first_four(&histories, insts),
+        open,
         in_transit: transit.count,
         receivers: transit.receivers,
         down: down(&histories),
@@ -155,19 +146,22 @@ fn count_decided(certificates: &[Certificate], kind: Kind, commit: bool) -> usiz
         .count()
 }
 
-// The open instances, in the order in which they began.
+// The open instances, in the order in which they began, with the processes that are in each.
 fn open_instances(
     alloc: Global,
     histories: &Histories,
     rows: &[Event],
-) -> Result<Vec<InstNo>, Memory>
+) -> Result<Vec<OpenInstance>, Memory>
     requires histories { HistoriesOf histories.now rows.now }
-    ensures { IfOk result (λ list. list.items ≡ open_instances rows.now) }
+    ensures { IfOk result (λ list. AllZip (IsOpenInstance (past rows.now)) (open_instances rows.now) list.items) }
 {
-    let list = rows
-        .iter()
-        .filter_map(|row| begun_open(histories, row))
-        .collect(alloc)?;
+    let mut list = Vec::new(alloc);
+    for row in rows {
+        if let Some(inst) = begun_open(histories, row) {
+            let inside = inside(histories, inst);
+            list.push(OpenInstance { inst, inside })?;
+        }
+    }
     Ok(list)
 }
 
@@ -198,31 +192,6 @@ fn is_anyone_in(histories: &Histories, inst: InstNo) -> bool
         }
     }
     false
-}
-
-// The first four of these open instances, with the processes that are in each.
-fn first_four(histories: &Histories, insts: &[InstNo]) -> [Option<OpenInstance>; 4]
-    ensures { (rows : List Events) (i : ℕ) (o : Option OpenInstances) → HistoriesOf histories.now rows
-        → slice_get result i ≡ Some o → IsOpenInstance (past rows) (slice_get insts.now i) o }
-{
-    [
-        told_at(histories, insts, 0),
-        told_at(histories, insts, 1),
-        told_at(histories, insts, 2),
-        told_at(histories, insts, 3),
-    ]
-}
-
-// The open instance at an index, with the processes that are in it.
-fn told_at(histories: &Histories, insts: &[InstNo], index: usize) -> Option<OpenInstance>
-    ensures { (rows : List Events) → HistoriesOf histories.now rows
-        → IsOpenInstance (past rows) (slice_get insts.now index) result }
-{
-    let inst = *insts.get(index)?;
-    Some(OpenInstance {
-        inst,
-        inside: inside(histories, inst),
-    })
 }
 
 // The processes that are in an instance.

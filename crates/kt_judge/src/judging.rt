@@ -161,13 +161,14 @@ fn answer_by(
 }
 
 // Whether a log passes and leaves an instance open, or a message in transit, by what is told of it.
+#[tactic(auto, using(crate::proofs::OpenInstances::all_told))]
 fn leaves_open(explanation: &Explanation) -> bool
     ensures { (rows : List Events) (certificates : List Certificates) (verdict : Verdicts)
         → IsExplanation rows certificates verdict explanation.now
         → MatchBool result ((verdict ≡ Yes) × ¬ IsAtRest rows) (verdict ≡ Yes → IsAtRest rows) }
 {
     match explanation {
-        Explanation::Judged(judged) => judged.open_count > 0 || judged.in_transit > 0,
+        Explanation::Judged(judged) => judged.open.len() > 0 || judged.in_transit > 0,
         _ => false,
     }
 }

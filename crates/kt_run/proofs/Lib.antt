@@ -15,3 +15,5 @@ pub mod Spares
 pub mod Rejecting
 pub mod Moves
 pub mod Quieting
+pub mod EvenWords
+pub mod EachOnce

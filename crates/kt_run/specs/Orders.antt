@@ -1,5 +1,6 @@
 -- Runs whose steps are made in an order: default ones, or steps that a generator draws.
-use Rattle.std.specs.Prelude.{◌≡◌, ◌⊎◌, ◌-◌, ◌%◌, ◌^◌, ◌++◌, ℕ, zero, suc, true, List, [], ◌∷◌, Option, Some, None, length, map, nat_lt, slice_get, if◌then◌else◌}
+use Rattle.std.specs.Prelude.{◌≡◌, ◌⊎◌, ◌-◌, ◌%◌, ◌^◌, ◌==◌, ◌++◌, ℕ, zero, suc, true, List, [], ◌∷◌, Option, Some, None, length, map, count_by, nat_lt, slice_get, if◌then◌else◌}
+use Rattle.std.specs.List.{range_with_len}
 use Rattle.rand_xoshiro.specs.Xoshiro256.{of_seed, plus_plus}
 use Rattle.rand_xoshiro.specs.SplitMix64.{splitmix_seed}
 use Rattle.kt_spacetime.specs.declared.event.Event.{Event}
@@ -28,9 +29,13 @@ Generator = List ℕ
 abbrev pub seeded : ℕ → Generator
 seeded seed = of_seed (splitmix_seed 32 seed)
 
--- the greatest multiple of n within 64 bits: of the words below it, as many have one remainder by n as another
+-- the greatest multiple of n within 64 bits
 abbrev pub even_part : ℕ → ℕ
 even_part n = (2 ^ 64 - 1) - ((2 ^ 64 - 1) % n)
+
+-- how many of the words below a bound have this remainder by n
+abbrev pub words_with : ℕ → ℕ → ℕ → ℕ
+words_with bound n rest = count_by (λ word. word % n == rest) (range_with_len 0 bound)
 
 -- a number below n, and the generator after it: the remainder of the first word below the even part, of so many; 0 if none is
 abbrev pub drawn : ℕ → ℕ → Generator → ℕ × Generator

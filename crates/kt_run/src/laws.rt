@@ -1,6 +1,7 @@
 //! Laws of runs; there is nothing to run.
 
-ghost use Rattle.std.specs.Prelude.{◌≡◌, ◌≢◌, ◌++◌, ℕ, Some, IfSome, List, map};
+ghost use Rattle.std.specs.Prelude.{◌≡◌, ◌≢◌, ◌<◌, ◌↔◌, ◌++◌, ℕ, Some, true, AllPairs, Contains, IfSome, List, map};
+ghost use Rattle.kt_core.specs.Choices.{enabled_steps};
 ghost use Rattle.kt_core.specs.Making.{MakesStep};
 ghost use Rattle.kt_core.specs.Shown.{Mirrors};
 ghost use Rattle.kt_core.specs.Worlds.{World};
@@ -16,10 +17,11 @@ ghost use Rattle.kt_plans.specs.Looks.{look};
 ghost use Rattle.kt_plans.specs.Offers.{GivesOffer, SendsWhatIsOffered};
 ghost use Rattle.kt_plans.specs.Progress.{Progress, progress_at_start};
 ghost use Rattle.kt_plans.specs.Runs.{Move, after_moves};
-ghost use Rattle.kt_plans.specs.Steps.{process_of_step, progress_after};
+ghost use Rattle.kt_plans.specs.Steps.{enabled, process_of_step, progress_after};
 ghost use Rattle.kt_plans.specs.Told.{told_at};
 ghost use Rattle.kt_run.specs.Objects.{Belongings, rules_of, rules_by, first_of, HoldsDue, IsDone};
 ghost use Rattle.kt_run.specs.OneRun.{SavesAll};
+ghost use Rattle.kt_run.specs.Orders.{even_part, words_with};
 ghost use Rattle.kt_run.specs.RunLaws.{RunLaws};
 ghost use Rattle.kt_run.specs.Runs.{IsRun, IsToldStep};
 ghost use Rattle.kt_run.specs.Telling.{numbered_rows_by, numbered_rows_told, told_here, IsToldAs, TellsItsRows};
@@ -74,6 +76,17 @@ pub fn steps_of_worlds()
 {
     laws_of_runs();
 }
+
+/// Where a seed gives the order, an enabled step is drawn as likely as another, as far as words of the generator are equally
+/// likely: the list that is drawn from has each enabled step once, and of the words that count as many have one remainder as
+/// another.
+pub fn even_draws()
+    ensures listed { (plan : Planned) (v : Progress) (step : steps) →
+        (enabled plan v step ≡ true) ↔ Contains (enabled_steps plan v) step }
+    ensures once { (plan : Planned) (v : Progress) → AllPairs (λ (a b : steps). a ≢ b) (enabled_steps plan v) }
+    ensures words { (n one other : ℕ) → one < n → other < n →
+        words_with (even_part n) n one ≡ words_with (even_part n) n other }
+{}
 
 /// The laws of runs that proofs of this crate rest on: whose proof cites one of their lemmas calls it.
 pub(crate) fn laws_of_runs()

@@ -16,7 +16,7 @@ mod run_state;
 mod runs;
 
 pub use faults::RunFault;
-pub use laws::{one_run, steps_of_worlds};
+pub use laws::{even_draws, one_run, steps_of_worlds};
 pub use orders::Order;
 pub use recorded::{Keep, RecordedRun, Stop, kept_run_of};
 pub use runs::{Outcome, run};

@@ -59,6 +59,7 @@ fn counts_of<R: Host>(
     seeds: u32,
     again: &str,
 ) -> io::Result<Counts> {
+    kt_run::even_draws();
     let mut counts = Counts {
         same: 0,
         yes: 0,

@@ -1,13 +1,11 @@
-use Rattle.std.proofs.Common.{◌≡◌, ◌∙◌, ℕ, List, length, take, refl, sym, ap, subst, arith}
-use Rattle.std.specs.List.{slice_get}
+use Rattle.std.proofs.Common.{◌≡◌, ℕ, List, length, take, refl, sym, ap, subst, arith}
 use Rattle.std.proofs.lemmas.List.{take_all}
 use Rattle.kt_spacetime.specs.declared.event.Event.{Event}
-use Rattle.kt_cuts.specs.Past.{past}
 use Rattle.kt_histories.specs.declared.histories.Histories.{Histories}
 use Rattle.kt_histories.specs.HistoriesOf.{HistoriesOf}
 use Rattle.kt_chain.specs.declared.certificate.Certificate.{Certificate}
 use Rattle.kt_explain.specs.declared.judged.Judged.{Judged}
-use Rattle.kt_explain.specs.Judged.{IsJudgedSo, IsOpenInstance}
+use Rattle.kt_explain.specs.Judged.{IsJudgedSo}
 use Rattle.kt_explain.proofs.judged.at_end.Goals as goal
 
 -- the histories of all rows
@@ -29,15 +27,13 @@ pub returns : goal.returns
 returns c =
     let rows = c.rows-rows.result.now in
     let h = all_rows rows c.args.log.now.rows _ c.in_ok-histories.histories c.rows-rows.ensures.rows refl c.in_ok-histories.ensures in
-    let insts = c.as_slice-insts.ensures.value ∙ c.in_ok-list.ensures in
     of_log rows c.args.log.now.rows c.args.certificates.now _ c.rows-rows.ensures.rows (record {
       rows_are = refl;
       instances_are = c.begun_in.ensures.begun;
       checkpoints = c.decided_by.ensures;
       rollbacks = c.decided_by-2.ensures;
       left = record {
-        count = ap length insts;
-        instances = λ i o e. subst (λ (l : List ℕ). IsOpenInstance (past rows) (slice_get l i) o) insts (c.first_four.ensures rows i o h e);
+        instances = c.in_ok-open.ensures;
         in_transit = c.in_transit-transit.ensures.count;
         receivers = c.in_transit-transit.ensures.receivers;
         down = λ p low. c.down.ensures rows p h low;
