@@ -1,4 +1,4 @@
-use Rattle.std.proofs.Common.{◌≡◌, Option, refl, subst}
+use Rattle.std.proofs.Common.{Option, refl, subst}
 use Rattle.kt_certify.specs.declared.fault.Unfit.{Unfit}
 use Rattle.kt_judge.specs.Judging.{IsBasis}
 use Rattle.kt_judge.proofs.judging.answer_by.Goals.{else-at_rest-via-then-at_rest+else-leaves_open, else-at_rest-via-else-at_rest}
