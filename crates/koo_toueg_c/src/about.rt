@@ -1,0 +1,36 @@
+//! What a caller compares with its header.
+
+ghost use Rattle.std.specs.Prelude.{◌≡◌, ◌≤◌, ◌<◌, length};
+ghost use Rattle.koo_toueg_c.specs.Buffers.{Holds};
+ghost use Rattle.koo_toueg_c.specs.Numbers.{struct_sizes};
+
+use crate::answer::KtAnswer;
+use crate::fault::KtFault;
+use std::mem::size_of;
+
+/// The version of these calls. It rises where a call, a struct or a number changes its meaning.
+#[unsafe(no_mangle)]
+pub extern "C" fn kt_version() -> u32
+    ensures { result ≡ 1 }
+{
+    1
+}
+
+/// The sizes, in bytes, of an answer, of a fault and of a length; how many sizes there are. Where there is no room for all of
+/// them, none is written.
+#[unsafe(no_mangle)]
+pub extern "C" fn kt_sizes(sizes: &mut [u32]) -> u32
+    ensures count { result ≡ length struct_sizes }
+    ensures told { 3 ≤ length sizes.old → Holds struct_sizes sizes.old sizes.new }
+    ensures short { length sizes.old < 3 → sizes.new ≡ sizes.old }
+{
+    let all: [u32; 3] = [
+        size_of::<KtAnswer>() as u32,
+        size_of::<KtFault>() as u32,
+        size_of::<usize>() as u32,
+    ];
+    if sizes.len() >= 3 {
+        sizes[..3].copy_from_slice(&all);
+    }
+    3
+}

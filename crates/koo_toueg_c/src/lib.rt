@@ -1,0 +1,19 @@
+//! The checker for callers in other languages: calls by the rules of C, over texts that are bytes in memory.
+//!
+//! A call gives what a crate below answers, in numbers and in a buffer that its caller lends. It keeps nothing, calls nobody
+//! back, and leaves nothing to be given back. `include/koo_toueg.h` declares the calls for C.
+//!
+//! **What to change where:** answers in numbers `answer.rt`, faults `fault.rt`, both as `specs/Numbers`; answers `judging.rt`,
+//! texts `texts.rt`, how stored texts are read `reading.rt`, all three as `specs/Stored`; buffers `buffers.rt`, as
+//! `specs/Buffers`; the version and sizes `about.rt`.
+#![tactic(auto)]
+
+mod about;
+mod answer;
+mod buffers;
+mod fault;
+mod judging;
+mod reading;
+#[cfg(test)]
+mod tests;
+mod texts;

@@ -1,0 +1,103 @@
+//! Each call on a small log, on one that is not its own, and with a buffer that is too short.
+
+use crate::about::{kt_sizes, kt_version};
+use crate::answer::KtAnswer;
+use crate::fault::KtFault;
+use crate::judging::{kt_check, kt_judge};
+use crate::texts::{kt_certify, kt_draw, kt_explain};
+use std::rt::HostRuntime;
+
+const LOG: &[u8] =
+    b"kt,2,-,-\nsent,0,1,5\nreceived,1,0,1\nbegan,1,1,checkpoint\ntook,1,1,-\ntook,0,1,-\ndecided,1,1,commit\nclosed,0,1,-\nclosed,1,1,-\n";
+
+// The same without the checkpoint of process 0.
+const TOO_FEW: &[u8] =
+    b"kt,2,-,-\nsent,0,1,5\nreceived,1,0,1\nbegan,1,1,checkpoint\ntook,1,1,-\ndecided,1,1,commit\nclosed,1,1,-\n";
+
+const CERTIFICATES: &[u8] = b"cert,1,checkpoint,1,commit\nmember,1,1,0,-\nmember,1,0,1,1\n";
+
+const ALONE: &[u8] = b"cert,1,checkpoint,1,commit\nmember,1,1,0,-\n";
+
+#[test]
+fn checks(rt: HostRuntime) {
+    let (mut answer, mut fault) = (KtAnswer::none(), KtFault::none());
+    let yes = kt_check(rt.alloc(), LOG, CERTIFICATES, &mut answer, &mut fault);
+    assert!(rt; yes == 0 && answer.why == 0 && fault.what == 0);
+    let no = kt_check(rt.alloc(), TOO_FEW, ALONE, &mut answer, &mut fault);
+    assert!(rt; no == 1 && answer.why == 6 && answer.inst == 1 && answer.row == 5);
+    let refused = kt_check(rt.alloc(), LOG, b"cert", &mut answer, &mut fault);
+    assert!(rt; refused == 2 && answer.why == 0 && answer.row == 0);
+    assert!(rt; fault.text == 2 && fault.what == 4 && fault.place == 1);
+}
+
+#[test]
+fn judges(rt: HostRuntime) {
+    let (mut answer, mut fault) = (KtAnswer::none(), KtFault::none());
+    let no = kt_judge(rt.alloc(), b"received,1,0,1\n", &mut answer, &mut fault);
+    assert!(rt; no == 1 && answer.why == 1 && answer.rule == 2 && answer.row == 1);
+    let yes = kt_judge(rt.alloc(), LOG, &mut answer, &mut fault);
+    assert!(rt; yes == 0 && answer.rule == 0 && answer.row == 0 && fault.what == 0);
+}
+
+#[test]
+fn certifies(rt: HostRuntime) {
+    let (mut fault, mut len, mut out) = (KtFault::none(), 0, [7; 100]);
+    let short = kt_certify(rt.alloc(), LOG, &mut out[..10], &mut len, &mut fault);
+    assert!(rt; short == 5 && len == CERTIFICATES.len() && out[0] == 7);
+    let done = kt_certify(rt.alloc(), LOG, &mut out, &mut len, &mut fault);
+    assert!(rt; done == 0 && len == CERTIFICATES.len() && out[len] == 7);
+    assert!(rt; &out[..len] == CERTIFICATES);
+    let unfit = kt_certify(
+        rt.alloc(),
+        b"received,1,0,1\n",
+        &mut out,
+        &mut len,
+        &mut fault,
+    );
+    assert!(rt; unfit == 1 && len == 0 && fault.what == 9 && fault.place == 1 && fault.rule == 2);
+}
+
+#[test]
+fn explains(rt: HostRuntime) {
+    let (mut fault, mut len, mut out) = (KtFault::none(), 0, [0; 400]);
+    let no = kt_explain(rt.alloc(), TOO_FEW, ALONE, &mut out, &mut len, &mut fault);
+    assert!(rt; no == 1 && fault.what == 0);
+    assert!(rt;
+        out[..len].starts_with(b"no instance 1 row 5 Orphan\nlog:6: decided,1,1,commit (row 5)\n")
+    );
+}
+
+#[test]
+fn draws(rt: HostRuntime) {
+    let (mut fault, mut len, mut out) = (KtFault::none(), 0, [0; 10]);
+    let short = kt_draw(
+        rt.alloc(),
+        LOG,
+        CERTIFICATES,
+        0,
+        0,
+        &mut out,
+        &mut len,
+        &mut fault,
+    );
+    assert!(rt; short == 5 && len > 1000 && fault.what == 0);
+    let none = kt_draw(
+        rt.alloc(),
+        LOG,
+        CERTIFICATES,
+        9,
+        0,
+        &mut out,
+        &mut len,
+        &mut fault,
+    );
+    assert!(rt; none == 2 && len == 0 && fault.what == 11);
+}
+
+#[test]
+fn tells_sizes(rt: HostRuntime) {
+    let mut sizes = [0; 4];
+    assert!(rt; kt_sizes(&mut sizes[..2]) == 3 && sizes[0] == 0);
+    assert!(rt; kt_sizes(&mut sizes) == 3 && sizes == [20, 24, 8, 0]);
+    assert!(rt; kt_version() == 1);
+}
