@@ -134,7 +134,8 @@ static uint32_t make_text(const call *c, text *out, text *err) {
     free(none);
     if (status != KT_SHORT) {
         if (*len) stop("the length of no text");
-        say_fault(err, fault);
+        if (status != KT_YES) say_fault(err, fault);
+        else if (!is_blank(fault, sizeof *fault)) stop("a fault beside an empty text");
     } else {
         size_t needed = *len;
         if (!needed) stop("an empty text that does not fit");

@@ -32,8 +32,8 @@ pub(crate) fn give(
 }
 
 /// Tells a fault, and that there is no text; its status.
-pub(crate) fn refuse(why: Fault, len: &mut usize, fault: &mut KtFault) -> u32
-    ensures told { TellsFault why result fault.new }
+pub(crate) fn refuse(why: &Fault, len: &mut usize, fault: &mut KtFault) -> u32
+    ensures told { TellsFault why.now result fault.new }
     ensures none { len.new ≡ 0 }
     ensures refused { 2 ≤ result }
     ensures few { result ≤ 4 }

@@ -73,8 +73,8 @@ impl Fault {
     }
 
     /// The status of a fault: 2 refused input, 3 a text that could not be read, 4 want of memory.
-    pub(crate) fn status(self) -> u32
-        ensures exact { result ≡ fault_status self }
+    pub(crate) fn status(&self) -> u32
+        ensures exact { result ≡ fault_status self.now }
         ensures refused { 2 ≤ result }
         ensures few { result ≤ 4 }
     {
@@ -96,12 +96,12 @@ impl KtFault {
     }
 
     /// A fault in numbers.
-    pub(crate) fn of(fault: Fault) -> KtFault
-        ensures { result ≡ fault_numbers fault }
+    pub(crate) fn of(fault: &Fault) -> KtFault
+        ensures { result ≡ fault_numbers fault.now }
     {
         match fault {
-            Fault::Log(fault) => KtFault::of_log(fault),
-            Fault::Certificates(fault) => KtFault::of_cert(fault),
+            Fault::Log(fault) => KtFault::of_log(*fault),
+            Fault::Certificates(fault) => KtFault::of_cert(*fault),
             Fault::Picture(PictureFault::NoRows) => in_text(1, 11, 0),
             Fault::Picture(PictureFault::TooLong) => in_text(1, 12, 0),
             Fault::Memory => in_text(0, 8, 0),

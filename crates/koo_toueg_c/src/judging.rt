@@ -44,7 +44,7 @@ pub extern "C" fn kt_check(
 {
     match verdict_of(alloc, log, certificates) {
         Ok(verdict) => tell_answer(&Answer::Checked(verdict), answer, fault),
-        Err(why) => refuse(why, answer, fault),
+        Err(why) => refuse(&why, answer, fault),
     }
 }
 
@@ -66,13 +66,13 @@ pub extern "C" fn kt_judge(
 {
     match answer_alone(alloc, log) {
         Ok(found) => tell_answer(&found, answer, fault),
-        Err(why) => refuse(why, answer, fault),
+        Err(why) => refuse(&why, answer, fault),
     }
 }
 
 // Tells a fault, and no answer; its status.
-fn refuse(why: Fault, answer: &mut KtAnswer, fault: &mut KtFault) -> u32
-    ensures told { TellsFault why result fault.new }
+fn refuse(why: &Fault, answer: &mut KtAnswer, fault: &mut KtFault) -> u32
+    ensures told { TellsFault why.now result fault.new }
     ensures none { answer.new ≡ no_answer }
     ensures refused { 1 < result }
 {

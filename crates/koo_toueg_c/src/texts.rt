@@ -1,6 +1,6 @@
 //! Texts made of stored logs: certificates, answers in facts, pictures.
 
-ghost use Rattle.std.specs.Prelude.{◌≡◌, ◌≢◌, ◌≤◌, ◌×◌, ℕ, List, [], IfOk, IfErr};
+ghost use Rattle.std.specs.Prelude.{◌≡◌, ◌≢◌, ◌≤◌, ℕ, List, [], IfOk, IfErr};
 ghost use Rattle.kt_certify.specs.declared.fault.Unfit.{Unfit as Unfits};
 ghost use Rattle.kt_checker.specs.Order.{IsCheckerAnswer};
 ghost use Rattle.kt_draw.specs.Drawn.{IsCertifiedPicture};
@@ -51,7 +51,7 @@ pub extern "C" fn kt_certify(
     match certified(alloc, log) {
         Ok(text) => give(text.as_slice(), 0, out, len, fault),
         Err(StreamFault::Unfit(why)) => tell_unfit(why, len, fault),
-        Err(StreamFault::Log(why)) => refuse(Fault::of_log(why), len, fault),
+        Err(StreamFault::Log(why)) => refuse(&Fault::of_log(why), len, fault),
     }
 }
 
@@ -91,7 +91,7 @@ pub extern "C" fn kt_explain(
 {
     match explained(alloc, log, certificates) {
         Ok(told) => give(told.text.as_slice(), told.status, out, len, fault),
-        Err(why) => refuse(why, len, fault),
+        Err(why) => refuse(&why, len, fault),
     }
 }
 
@@ -124,7 +124,7 @@ pub extern "C" fn kt_draw(
 {
     match drawn(alloc, log, certificates, span_of(from, to)) {
         Ok(text) => give(text.as_slice(), 0, out, len, fault),
-        Err(why) => refuse(why, len, fault),
+        Err(why) => refuse(&why, len, fault),
     }
 }
 
