@@ -1,0 +1,5 @@
+pub mod HeadFacts
+pub mod OneMerge
+pub mod NumberingFacts
+pub mod PartFacts
+pub mod KeepingFacts

@@ -1,0 +1,15 @@
+-- Parts of which none was read.
+use Rattle.std.proofs.Common.{◌≡◌, ◌∙◌, ◌+◌, ℕ, Option, Some, List, [], ◌∷◌, ◌++◌, length, refl, sym, ap, subst, inl, inr}
+use Rattle.std.specs.List.{slice_get}
+use Rattle.kt_cuts.proofs.Items.{get_push}
+use Rattle.kt_part_text.specs.Reading.{PartRead, part_unread, IsPartUnread}
+use Rattle.kt_merge.specs.Merging.{ArePartsUnread}
+
+pub unread_push : (parts : List PartRead) (part : PartRead) (source : Option (List ℕ)) → ArePartsUnread parts → part ≡ part_unread (length parts) source → ArePartsUnread (parts ++ part ∷ [])
+unread_push parts part source all e p other at = elim (get_push parts part p other at) [
+  | inl there ↦ all p other there
+  | inr there ↦
+      let is : other ≡ part_unread (length parts) source = there.1 ∙ e in
+      let process : other.process ≡ length parts = ap (λ (x : PartRead). x.process) is in
+      ((source, is ∙ ap (λ (q : ℕ). part_unread q source) (sym process)), process ∙ sym there.0)
+]

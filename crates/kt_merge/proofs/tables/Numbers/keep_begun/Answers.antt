@@ -1,0 +1,14 @@
+use Rattle.std.proofs.Common.{arith, ◌≡◌, ◌<◌, length, refl}
+use Rattle.std.proofs.lemmas.Option.{slice_get_read}
+use Rattle.std.proofs.lemmas.Result.{on_ok_weaker}
+use Rattle.kt_merge.specs.declared.tables.Gave.{Gave}
+use Rattle.kt_merge.proofs.KeepingFacts.{shows_begun}
+use Rattle.kt_merge.proofs.tables.Numbers.keep_begun.Goals as goal
+
+pub returns : goal.returns
+returns c = on_ok_weaker c.push_item.result
+    (λ more g kind s.
+    let within : c.index.result < length c.args.self.now.gave.items = omega (arith, s.all, c.index.ensures.in_range) in
+    let at = slice_get_read c.args.self.now.gave.items (length c.args.self.now.gave.items) c.index.result c.index_mut.result.now refl within c.index_mut.ensures.value in
+    let now : Gave = record { sent = c.index_mut.result.now.sent; begun = c.push_item.new.items } in
+    shows_begun c.args.self.now.rows c.args.self.now.begun c.args.self.now.gave.items g c.args.p c.index.result c.args.inst kind c.index_mut.result.now now s c.requires.few.0 c.requires.few.1 c.index.ensures.value at c.requires.next more refl) c.push_item.ensures

@@ -1,0 +1,22 @@
+-- Which row comes next.
+use Rattle.std.specs.Prelude.{◌≡◌, ◌<◌, ◌≤◌, ◌⊎◌, ℕ, Option, Some, None, List, slice_get}
+use Rattle.kt_part_text.specs.declared.rows.PartRow.{PartRow}
+
+-- a row comes before another, or as it: by clock, then by process
+abbrev pub IsNotLater : PartRow → PartRow → Type 0
+IsNotLater a b = (a.clock < b.clock) ⊎ ((a.clock ≡ b.clock) × (a.row.p ≤ b.row.p))
+
+-- of the next rows of all parts, the one that comes first: the least clock, and of several the first part
+pub record IsLeastHead (heads : List (Option PartRow)) (i : ℕ) (row : PartRow) : Type 0 where
+  pub is : slice_get heads i ≡ Some (Some row)
+  pub least : (j : ℕ) (other : PartRow) → slice_get heads j ≡ Some (Some other) → (row.clock < other.clock) ⊎ ((row.clock ≡ other.clock) × (i ≤ j))
+
+-- no part has a next row
+abbrev pub HasNoHead : List (Option PartRow) → Type 0
+HasNoHead heads = (j : ℕ) (other : PartRow) → slice_get heads j ≡ Some (Some other) → ⊥
+
+-- the same among the parts before a number
+abbrev pub IsBestTo : List (Option PartRow) → ℕ → Option (ℕ × PartRow) → Type 0
+IsBestTo heads n None = (j : ℕ) (other : PartRow) → j < n → slice_get heads j ≡ Some (Some other) → ⊥
+IsBestTo heads n (Some (i, row)) = (i < n) × (slice_get heads i ≡ Some (Some row))
+    × ((j : ℕ) (other : PartRow) → j < n → slice_get heads j ≡ Some (Some other) → (row.clock < other.clock) ⊎ ((row.clock ≡ other.clock) × (i ≤ j)))

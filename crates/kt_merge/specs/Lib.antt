@@ -1,0 +1,9 @@
+pub use Rattle.kt_base.specs.Numbers
+pub use Rattle.kt_text.specs.Writing
+pub use Rattle.kt_names.specs.Names
+pub use Rattle.kt_part_text.specs.Texts
+pub use Rattle.kt_part_text.specs.Reading
+pub mod Merging
+pub mod Heads
+pub mod Numbering
+pub mod FaultTexts

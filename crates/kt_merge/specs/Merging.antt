@@ -1,0 +1,115 @@
+-- One log of many parts.
+use Rattle.std.specs.Prelude.{◌≡◌, ◌≢◌, ◌⊎◌, ◌<◌, ◌≤◌, ◌+◌, ◌==◌, ℕ, Option, Some, None, List, [], ◌∷◌, ◌++◌, length, map, filter, slice_get, All, AllPairs}
+use Rattle.std.specs.Io.KnownBytes.{Appends}
+use Rattle.kt_base.specs.Numbers.{IsProcNo}
+use Rattle.kt_spacetime.specs.declared.event.Event.{Event}
+use Rattle.kt_text.specs.Writing.{text_of, WritesFront}
+use Rattle.kt_log_text.specs.Spelling.{spelling}
+use Rattle.kt_log_text.specs.Texts.{header}
+use Rattle.kt_names.specs.declared.rows.NamedRow.{NamedRow}
+use Rattle.kt_names.specs.Names.{Given, nothing_given, given_by, numbered}
+use Rattle.kt_part_text.specs.declared.rows.PartRow.{PartRow}
+use Rattle.kt_part_text.specs.Reading.{PartRead, IsPartUnread}
+use Rattle.kt_part_text.specs.Texts.{IsPartText, BeginsPart, SaysRow, IsPartFaultFrom, clock_after}
+use Rattle.kt_merge.specs.declared.fault.MergeFault.{MergeFault}
+use Rattle.kt_merge.specs.declared.fault.MergeFault.TheVariants as merge
+use Rattle.kt_merge.specs.Heads.{IsNotLater}
+use Rattle.kt_merge.specs.Numbering.{IsRowFault}
+
+-- the records of a text
+abbrev pub Records : Type 0
+Records = List (List (List ℕ))
+
+-- readers of the parts of processes 0, 1 and so on, of which none was read
+abbrev pub ArePartsUnread : List PartRead → Type 0
+ArePartsUnread parts = (p : ℕ) (part : PartRead) → slice_get parts p ≡ Some part → IsPartUnread part × (part.process ≡ p)
+
+-- the part of a process, by its number, where its records are known
+abbrev pub IsPartOf : List PartRead → ℕ → Records → Type 0
+IsPartOf parts p text = (part : PartRead) × (slice_get parts p ≡ Some part) × (part.left ≡ Some text)
+
+-- the records of each part are known
+abbrev pub AreKnown : List PartRead → Type 0
+AreKnown parts = (p : ℕ) → p < length parts → (text : Records) × IsPartOf parts p text
+
+-- the rows of a process among all
+abbrev pub rows_of : ℕ → List PartRow → List PartRow
+rows_of p rows = filter (λ r. r.row.p == p) rows
+
+-- the rows without their clocks
+abbrev pub without_clocks : List PartRow → List NamedRow
+without_clocks rows = map (λ r. r.row) rows
+
+-- rows of these parts, sorted by clock and then by process
+pub record AreSorted (parts : List PartRead) (rows : List PartRow) : Type 0 where
+  pub of_parts : All (λ r. r.row.p < length parts) rows
+  pub sorted : AllPairs IsNotLater rows
+
+-- all rows of all parts: those of each process are its part, in order
+pub record IsMergeOf (parts : List PartRead) (rows : List PartRow) : Type 0 where
+  pub sorted : AreSorted parts rows
+  pub whole : (p : ℕ) (text : Records) → IsPartOf parts p text → IsPartText p text (rows_of p rows)
+
+-- the text of a log, in format 2
+abbrev pub log_text : List Event → List ℕ
+log_text log = text_of (header ∷ map spelling log)
+
+-- what was written is the log of all rows of all parts
+pub record WritesMerge (parts : List PartRead) (old new : Option (List ℕ)) : Type 0 where
+  pub rows : List PartRow
+  pub log : List Event
+  pub merged : IsMergeOf parts rows
+  pub numbers : numbered (without_clocks rows) ≡ Some log
+  pub written : Appends old new (log_text log)
+
+-- what is left of a process's part, after its rows among these, begins with a record that says its next row
+abbrev pub SaysNext : ℕ → List PartRow → Records → PartRow → Type 0
+SaysNext p rows left row = SaysRow left row × (clock_after 0 (rows_of p rows) ≤ row.clock) × (row.row.p ≡ p)
+
+-- it is at its end, or begins with such a record
+abbrev pub GoesOn : ℕ → List PartRow → Records → Type 0
+GoesOn p rows left = (left ≡ []) ⊎ ((row : PartRow) × SaysNext p rows left row)
+
+-- the first rows of a merge, with their log: what is left of each part comes later
+pub record BeginsMerge (parts : List PartRead) (rows : List PartRow) (log : List Event) : Type 0 where
+  pub sorted : AreSorted parts rows
+  pub begun : (p : ℕ) (text : Records) → IsPartOf parts p text → (left : Records) × BeginsPart p text (rows_of p rows) left
+      × ((next : PartRow) → SaysNext p rows left next → All (λ r. IsNotLater r next) rows)
+  pub numbers : numbered (without_clocks rows) ≡ Some log
+
+-- what is left of a part after its rows among these
+abbrev pub IsLeftOf : List PartRead → List PartRow → ℕ → Records → Type 0
+IsLeftOf parts rows p left = (text : Records) × IsPartOf parts p text × BeginsPart p text (rows_of p rows) left
+
+-- the row before it was the last one of this process; before the first row, the parts before it go on
+abbrev pub ComesNext : List PartRead → List PartRow → ℕ → Type 0
+ComesNext parts rows p =
+    ((rows ≡ []) × ((q : ℕ) (left : Records) → q < p → IsLeftOf parts rows q left → GoesOn q rows left))
+    ⊎ ((before : List PartRow) × (last : PartRow) × (rows ≡ before ++ last ∷ []) × (last.row.p ≡ p)
+    × ((q : ℕ) (left : Records) → q ≢ p → IsLeftOf parts rows q left → GoesOn q rows left))
+
+-- the first fault in merged order, after these rows
+abbrev pub IsMergeFaultAfter : List PartRead → List PartRow → List Event → MergeFault → Type 0
+IsMergeFaultAfter parts rows log merge.Write = Unit {0}
+IsMergeFaultAfter parts rows log merge.Memory = Unit {0}
+IsMergeFaultAfter parts rows log (merge.Part p fault) =
+    ComesNext parts rows p × ((left : Records) → IsLeftOf parts rows p left → IsPartFaultFrom p (length (rows_of p rows)) (clock_after 0 (rows_of p rows)) left fault)
+IsMergeFaultAfter parts rows log (merge.Row p n fault) =
+    (n ≡ length (rows_of p rows) + 1) × (row : PartRow) × (row.row.p ≡ p)
+    × ((left : Records) → IsLeftOf parts rows p left → SaysNext p rows left row)
+    × ((q : ℕ) (left : Records) → IsLeftOf parts rows q left → (left ≡ []) ⊎ ((next : PartRow) × SaysNext q rows left next × IsNotLater row next))
+    × IsRowFault (given_by nothing_given log) p row.row.event fault
+
+-- the first fault of a merge: rows that are merged, and then what is wrong
+pub record IsFirstMergeFault (parts : List PartRead) (fault : MergeFault) : Type 0 where
+  pub rows : List PartRow
+  pub log : List Event
+  pub begins : BeginsMerge parts rows log
+  pub wrong : IsMergeFaultAfter parts rows log fault
+
+-- what was written before a fault is a front part of the text of a log that begins the merge
+pub record WritesMergeFront (parts : List PartRead) (old new : Option (List ℕ)) : Type 0 where
+  pub rows : List PartRow
+  pub log : List Event
+  pub begins : BeginsMerge parts rows log
+  pub written : WritesFront old new (log_text log)
