@@ -14,7 +14,7 @@ use Rattle.kt_merge.specs.Heads.{IsNotLater}
 use Rattle.kt_merge.specs.Merging.{Records, IsPartOf, AreKnown, rows_of, IsMergeOf}
 
 -- a row of a process among its rows, and one of another process
-of_it : (p : ℕ) (x : PartRow) (xs : List PartRow) → x.row.p ≡ p → rows_of p (x ∷ xs) ≡ x ∷ rows_of p xs
+pub of_it : (p : ℕ) (x : PartRow) (xs : List PartRow) → x.row.p ≡ p → rows_of p (x ∷ xs) ≡ x ∷ rows_of p xs
 of_it p x xs e =
     let yes : (x.row.p == p) ≡ true = subst (λ (q : ℕ). (x.row.p == q) ≡ true) e (same_test x.row.p) in
     ap (λ (b : Bool). cond b (x ∷ rows_of p xs) (rows_of p xs)) yes
@@ -26,7 +26,7 @@ not_test a b n = at_test (a == b) refl
     at_test true e = absurd (n (tested a b e))
     at_test false e = e
 
-of_other : (p : ℕ) (x : PartRow) (xs : List PartRow) → x.row.p ≢ p → rows_of p (x ∷ xs) ≡ rows_of p xs
+pub of_other : (p : ℕ) (x : PartRow) (xs : List PartRow) → x.row.p ≢ p → rows_of p (x ∷ xs) ≡ rows_of p xs
 of_other p x xs n = ap (λ (b : Bool). cond b (x ∷ rows_of p xs) (rows_of p xs)) (not_test x.row.p p n)
 
 -- the first row of a process stands among all

@@ -1,6 +1,7 @@
 -- Which row comes next.
-use Rattle.std.specs.Prelude.{◌≡◌, ◌<◌, ◌≤◌, ◌⊎◌, ℕ, Option, Some, None, List, slice_get}
+use Rattle.std.specs.Prelude.{◌≡◌, ◌<◌, ◌≤◌, ◌⊎◌, ℕ, Option, Some, None, Ok, List, length, slice_get}
 use Rattle.kt_part_text.specs.declared.rows.PartRow.{PartRow}
+use Rattle.kt_part_text.specs.Reading.{PartRead, StepsPart}
 
 -- a row comes before another, or as it: by clock, then by process
 abbrev pub IsNotLater : PartRow → PartRow → Type 0
@@ -20,3 +21,8 @@ abbrev pub IsBestTo : List (Option PartRow) → ℕ → Option (ℕ × PartRow) 
 IsBestTo heads n None = (j : ℕ) (other : PartRow) → j < n → slice_get heads j ≡ Some (Some other) → ⊥
 IsBestTo heads n (Some (i, row)) = (i < n) × (slice_get heads i ≡ Some (Some row))
     × ((j : ℕ) (other : PartRow) → j < n → slice_get heads j ≡ Some (Some other) → (row.clock < other.clock) ⊎ ((row.clock ≡ other.clock) × (i ≤ j)))
+
+-- a call of each reader gave these next rows
+pub record GiveHeads (old new : List PartRead) (heads : List (Option PartRow)) : Type 0 where
+  pub many : (length new ≡ length old) × (length heads ≡ length old)
+  pub each : (p : ℕ) (was is : PartRead) (head : Option PartRow) → slice_get old p ≡ Some was → slice_get new p ≡ Some is → slice_get heads p ≡ Some head → StepsPart was is (Ok head)

@@ -100,16 +100,11 @@ IsMergeFaultAfter parts rows log (merge.Row p n fault) =
     × ((q : ℕ) (left : Records) → IsLeftOf parts rows q left → (left ≡ []) ⊎ ((next : PartRow) × SaysNext q rows left next × IsNotLater row next))
     × IsRowFault (given_by nothing_given log) p row.row.event fault
 
--- the first fault of a merge: rows that are merged, and then what is wrong
-pub record IsFirstMergeFault (parts : List PartRead) (fault : MergeFault) : Type 0 where
+-- a merge stops at its first fault: rows that are merged, and then what is wrong; what was written is a front part of the text
+-- of their log
+pub record StopsMerge (parts : List PartRead) (old new : Option (List ℕ)) (fault : MergeFault) : Type 0 where
   pub rows : List PartRow
   pub log : List Event
   pub begins : BeginsMerge parts rows log
   pub wrong : IsMergeFaultAfter parts rows log fault
-
--- what was written before a fault is a front part of the text of a log that begins the merge
-pub record WritesMergeFront (parts : List PartRead) (old new : Option (List ℕ)) : Type 0 where
-  pub rows : List PartRow
-  pub log : List Event
-  pub begins : BeginsMerge parts rows log
   pub written : WritesFront old new (log_text log)

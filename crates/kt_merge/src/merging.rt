@@ -1,10 +1,16 @@
 //! Parts merged in one pass.
 
-ghost use Rattle.std.specs.Prelude.{◌≡◌, ◌<◌, ◌≤◌, [], ◌∷◌, ◌++◌, ◌⊎◌, Some, length, IfOk, IfErr, OnOk, OnErr};
-ghost use Rattle.kt_names.specs.Names.{Given, given_after, numbered_event};
+ghost use Rattle.std.specs.Prelude.{◌≡◌, ◌<◌, ◌≤◌, [], ◌∷◌, ◌++◌, ◌⊎◌, Some, Ok, length, IfOk, IfErr, OnOk, OnErr};
+ghost use Rattle.kt_log_text.specs.Spelling.{spelling};
+ghost use Rattle.kt_log_text.specs.Texts.{header};
+ghost use Rattle.kt_names.specs.Names.{Given, nothing_given, given_after, numbered_event};
+ghost use Rattle.kt_part_text.specs.declared.fault.PartFault.{PartFault as part_faults};
+ghost use Rattle.kt_part_text.specs.Reading.{StepsPart, MeetsPartFault};
+ghost use Rattle.kt_text.specs.Writing.{line_of, Sends, WritesFront};
 ghost use Rattle.kt_merge.specs.declared.fault.RowFault.{RowFault as row_faults};
+ghost use Rattle.kt_merge.specs.Heads.{GiveHeads};
 ghost use Rattle.kt_merge.specs.Numbering.{ShowsGiven, IsRowFault};
-ghost use Rattle.kt_merge.specs.Merging.{ArePartsUnread, WritesMerge, IsFirstMergeFault, WritesMergeFront};
+ghost use Rattle.kt_merge.specs.Merging.{ArePartsUnread, WritesMerge, IsMergeFaultAfter, StopsMerge};
 
 use crate::fault::MergeFault;
 use crate::heads::least;
@@ -15,6 +21,7 @@ use kt_base::{Memory, ProcNo};
 use kt_names::NamedRow;
 use kt_part_text::{PartReader, PartRow};
 use kt_spacetime::Event;
+use kt_text::WriteFault;
 use kt_text::lines::Line;
 use kt_text::pieces::{new_text, write_full, write_rest};
 use std::alloc::Global;
@@ -27,57 +34,63 @@ use std::io::{Read, Write};
 /// log of the rows before it is written.
 pub fn merge_parts<R: Read + Drop, W: Write>(
     alloc: Global,
-    parts: Parts<R>,
+    parts: &mut Parts<R>,
     writer: &mut W,
 ) -> Result<(), MergeFault>
-    ensures merged { OnOk result (WritesMerge parts (W.contents writer.old) (W.contents writer.new)) }
-    ensures fault { IfErr result (λ e. IsFirstMergeFault parts e) }
-    ensures stopped { OnErr result (WritesMergeFront parts (W.contents writer.old) (W.contents writer.new)) }
+    requires few { length parts.old ≤ 64 }
+    requires unread { ArePartsUnread parts.old }
+    ensures merged { OnOk result (WritesMerge parts.old (W.contents writer.old) (W.contents writer.new)) }
+    ensures stopped { IfErr result (λ e. StopsMerge parts.old (W.contents writer.old) (W.contents writer.new) e) }
 {
-    let Parts { readers } = parts;
-    merge_readers(alloc, readers, writer)
-}
-
-// The same of readers.
-fn merge_readers<R: Read + Drop, W: Write>(
-    alloc: Global,
-    mut parts: Vec<PartReader<R>>,
-    writer: &mut W,
-) -> Result<(), MergeFault>
-    requires few { length parts.items ≤ 64 }
-    requires unread { ArePartsUnread parts.items }
-    ensures merged { OnOk result (WritesMerge parts.items (W.contents writer.old) (W.contents writer.new)) }
-    ensures fault { IfErr result (λ e. IsFirstMergeFault parts.items e) }
-    ensures stopped { OnErr result (WritesMergeFront parts.items (W.contents writer.old) (W.contents writer.new)) }
-{
-    let mut heads = first_heads(alloc, &mut parts)?;
     let mut numbers = Numbers::new(alloc)?;
     let mut text = new_text(alloc)?;
     push_header(&mut text)?;
+    let (readers, heads) = (&mut parts.readers, &mut parts.heads);
+    merge_readers(readers, heads, &mut numbers, &mut text, writer)
+}
+
+// The same, with the tables of what no row gave yet, and the text that is gathered.
+fn merge_readers<R: Read + Drop, W: Write>(
+    parts: &mut Vec<PartReader<R>>,
+    heads: &mut Vec<Option<PartRow>>,
+    numbers: &mut Numbers,
+    text: &mut Vec<u8>,
+    writer: &mut W,
+) -> Result<(), MergeFault>
+    requires few { length parts.old.items ≤ 64 }
+    requires unread { ArePartsUnread parts.old.items }
+    requires nothing { ShowsGiven numbers.old nothing_given }
+    requires header { text.old.items ≡ line_of header }
+    ensures merged { OnOk result (WritesMerge parts.old.items (W.contents writer.old) (W.contents writer.new)) }
+    ensures stopped { IfErr result (λ e. StopsMerge parts.old.items (W.contents writer.old) (W.contents writer.new) e) }
+{
+    read_heads(parts, heads)?;
     let mut line = Line::new();
     while let Some((part, row)) = least(heads.as_slice()) {
-        let event = numbered(&mut numbers, row.row, parts[part].count())?;
-        push_row(&mut text, &mut line, event)?;
-        write_full(&mut text, writer)?;
+        let event = numbered(numbers, row.row, parts[part].count())?;
+        write_row(text, &mut line, event, writer)?;
         heads[part] = next_head(&mut parts[part], part)?;
     }
-    write_rest(&mut text, writer)?;
+    write_rest(text, writer)?;
     Ok(())
 }
 
-// The first row of each part.
-fn first_heads<R: Read + Drop>(
-    alloc: Global,
+// Reads the first row of each part.
+fn read_heads<R: Read + Drop>(
     parts: &mut Vec<PartReader<R>>,
-) -> Result<Vec<Option<PartRow>>, MergeFault>
-    requires { length parts.old.items ≤ 64 }
+    heads: &mut Vec<Option<PartRow>>,
+) -> Result<(), MergeFault>
+    requires few { length parts.old.items ≤ 64 }
+    requires unread { ArePartsUnread parts.old.items }
+    ensures found { OnOk result (GiveHeads parts.old.items parts.new.items heads.new.items) }
+    ensures fault { IfErr result (λ e. IsMergeFaultAfter parts.old.items [] [] e) }
 {
-    let mut heads = Vec::new(alloc);
+    heads.clear();
     for part in 0..parts.len() {
         let head = next_head(&mut parts[part], part)?;
-        push_item(&mut heads, head)?;
+        push_item(heads, head)?;
     }
-    Ok(heads)
+    Ok(())
 }
 
 // Adds an item at the end.
@@ -95,11 +108,31 @@ fn next_head<R: Read + Drop>(
     part: usize,
 ) -> Result<Option<PartRow>, MergeFault>
     requires { part < 64 }
+    ensures found { IfOk result (λ head. StepsPart reader.old reader.new (Ok head)) }
+    ensures fault { IfErr result (λ e. (fault : part_faults) × (e ≡ MergeFault.Part part fault)
+        × MeetsPartFault reader.old reader.new fault) }
 {
     match reader.next() {
         Ok(head) => Ok(head),
         Err(fault) => Err(MergeFault::Part(ProcNo::nth(part as u8), fault)),
     }
+}
+
+// Gathers a row's record, and writes what is gathered if it is much.
+#[inline(always)]
+fn write_row<W: Write>(
+    text: &mut Vec<u8>,
+    line: &mut Line,
+    row: Event,
+    writer: &mut W,
+) -> Result<(), WriteFault>
+    ensures sent { OnOk result (Sends (W.contents writer.old) (W.contents writer.new) text.old.items text.new.items
+        (line_of (spelling row))) }
+    ensures stopped { OnErr result (WritesFront (W.contents writer.old) (W.contents writer.new)
+        (text.old.items ++ line_of (spelling row))) }
+{
+    push_row(text, line, row)?;
+    write_full(text, writer)
 }
 
 // The row by numbers of a row by names, which stands in this record of its part.

@@ -2,17 +2,19 @@
 
 ghost use Rattle.std.specs.Prelude.{◌≡◌, ◌<◌, ◌≤◌, [], ◌∷◌, ◌++◌, length, OnOk, OnErr};
 ghost use Rattle.kt_part_text.specs.Reading.{part_unread};
+ghost use Rattle.kt_merge.specs.Merging.{ArePartsUnread};
 
 use kt_base::{Memory, ProcNo};
-use kt_part_text::PartReader;
+use kt_part_text::{PartReader, PartRow};
 use std::alloc::Global;
 use std::io::Read;
 use std::marker::Model;
 
-/// Readers of the parts of processes 0, 1 and so on, at most 64, of which none was read yet.
+/// Readers of the parts of processes 0, 1 and so on, and the next row of each, as far as it was read.
 #[derive(Drop)]
 pub struct Parts<R: Read + Drop> {
     pub(crate) readers: Vec<PartReader<R>>,
+    pub(crate) heads: Vec<Option<PartRow>>,
 }
 
 impl<R: Read + Drop> Model for Parts<R> {
@@ -21,28 +23,24 @@ impl<R: Read + Drop> Model for Parts<R> {
 
     ghost Value = { List PartRead };
 
-    ghost use Rattle.std.specs.Prelude.{◌≤◌, length};
-    ghost use Rattle.kt_merge.specs.Merging.{ArePartsUnread};
-
     ghost view = { λ p. p.readers.items };
-
-    ghost invariant = { λ p. (length p.readers.items ≤ 64) × ArePartsUnread p.readers.items };
 }
 
 impl<R: Read + Drop> Parts<R> {
     /// No parts. It takes no memory.
     pub fn new(alloc: Global) -> Parts<R>
-        ensures { result ≡ [] }
+        ensures none { result ≡ [] }
+        ensures unread { ArePartsUnread result }
     {
         Parts {
             readers: Vec::new(alloc),
+            heads: Vec::new(alloc),
         }
     }
 
-    /// How many parts there are, at most 64.
+    /// How many parts there are.
     pub fn count(&self) -> usize
-        ensures value { result ≡ length self.now }
-        ensures few { result ≤ 64 }
+        ensures { result ≡ length self.now }
     {
         self.readers.len()
     }
@@ -51,6 +49,7 @@ impl<R: Read + Drop> Parts<R> {
     pub fn push(&mut self, alloc: Global, reader: R) -> Result<(), Memory>
         requires { length self.old < 64 }
         ensures added { OnOk result (self.new ≡ self.old ++ part_unread (length self.old) (R.remaining reader) ∷ []) }
+        ensures unread { OnOk result (ArePartsUnread self.old → ArePartsUnread self.new) }
         ensures err { OnErr result (self.new ≡ self.old) }
     {
         let process = ProcNo::nth(self.readers.len() as u8);

@@ -1,5 +1,8 @@
 //! Parts at the limits of a log.
 
+ghost use Rattle.std.specs.Prelude.{◌≤◌, length};
+ghost use Rattle.kt_merge.specs.Merging.{ArePartsUnread};
+
 use crate::faults::value_of;
 use crate::merging::add;
 use kt_merge::{Parts, merge_parts};
@@ -46,9 +49,15 @@ impl Write for Counted {
 }
 
 // Shows what comes of parts.
-fn show_merged<R: Print, S: Read + Drop>(rt: &R, alloc: Global, parts: Parts<S>) -> io::Result<()> {
+fn show_merged<R: Print, S: Read + Drop>(
+    rt: &R,
+    alloc: Global,
+    mut parts: Parts<S>,
+) -> io::Result<()>
+    requires { ArePartsUnread parts × (length parts ≤ 64) }
+{
     let mut counted = Counted { bytes: 0 };
-    match merge_parts(alloc, parts, &mut counted) {
+    match merge_parts(alloc, &mut parts, &mut counted) {
         Ok(()) => print!(rt; "  merged")?,
         Err(fault) => print!(rt; "  {fault}")?,
     }

@@ -1,5 +1,8 @@
 //! What is merged of stored parts, and the line of a fault.
 
+ghost use Rattle.std.specs.Prelude.{◌≤◌, length, IfOk, OnOk};
+ghost use Rattle.kt_merge.specs.Merging.{ArePartsUnread};
+
 use crate::cases::{Case, next_piece};
 use crate::failing::FailingWriter;
 use crate::faults::{refused, value_of};
@@ -9,7 +12,9 @@ use std::io;
 use std::io::{Read, Write};
 
 // The parts that these pieces are, at most 64.
-fn parts_of(alloc: Global, pieces: &[u8]) -> io::Result<Parts<&[u8]>> {
+fn parts_of(alloc: Global, pieces: &[u8]) -> io::Result<Parts<&[u8]>>
+    ensures { IfOk result (λ parts. ArePartsUnread parts × (length parts ≤ 64)) }
+{
     let mut parts = Parts::new(alloc);
     let mut left = pieces;
     for _ in 0..64 {
@@ -29,11 +34,16 @@ pub(crate) fn add<R: Read + Drop>(
     alloc: Global,
     parts: &mut Parts<R>,
     reader: R,
-) -> io::Result<()> {
+) -> io::Result<()>
+    ensures { OnOk result (ArePartsUnread parts.old → ArePartsUnread parts.new × (length parts.new ≤ 64)) }
+{
     if parts.count() >= 64 {
         return refused();
     }
-    value_of(parts.push(alloc, reader))
+    match parts.push(alloc, reader) {
+        Ok(()) => Ok(()),
+        Err(_) => refused(),
+    }
 }
 
 // Merges the parts of these pieces.
@@ -42,8 +52,8 @@ fn merge<W: Write>(
     pieces: &[u8],
     writer: &mut W,
 ) -> io::Result<Result<(), MergeFault>> {
-    let parts = parts_of(alloc, pieces)?;
-    Ok(merge_parts(alloc, parts, writer))
+    let mut parts = parts_of(alloc, pieces)?;
+    Ok(merge_parts(alloc, &mut parts, writer))
 }
 
 // Whether a writer that takes 100 bytes a call and fails at this one is a write fault; what it holds then has to be a
