@@ -1,5 +1,5 @@
 -- Row after row is taken from the parts.
-use Rattle.std.proofs.Common.{◌≡◌, ◌≢◌, ◌∙◌, ◌<◌, ◌≤◌, ◌+◌, ◌⊎◌, ℕ, Option, Some, None, Ok, List, [], ◌∷◌, ◌++◌, IfSome, length, length-append, set, refl, sym, ap, subst, arith, inl, inr}
+use Rattle.std.proofs.Common.{◌≡◌, ◌≢◌, ◌∙◌, ◌<◌, ◌≤◌, ◌+◌, ℕ, Option, Some, None, Ok, List, [], ◌∷◌, ◌++◌, IfSome, length, length-append, set, refl, sym, ap, subst, arith, inl, inr}
 use Rattle.std.specs.Prelude.{All}
 use Rattle.std.specs.List.{slice_get}
 use Rattle.std.proofs.lemmas.Bool.{cases_eq}
@@ -119,7 +119,6 @@ begun_here start parts heads p before row log t text of =
     let g = gathered_here start parts heads p before row log t text of at.0 at.1 in
     let b = known_left p (rows_of p (before ++ row ∷ [])) text at.0.left g.begins in
     (b.0, b.1, λ next says. later_here start parts heads p before row log t b.0 next says)
-
 
 -- the rows that are taken with a row begin the merge
 pub begins_taken : (start parts : List PartRead) (heads : List (Option PartRow)) (p : ℕ) (before : List PartRow) (row : PartRow) (log : List Event) → IsTaken start parts heads p before row log → BeginsMerge start (before ++ row ∷ []) log

@@ -1,9 +1,8 @@
 -- Lists of rows that are sorted, and have the same rows of each process in order, are one list.
-use Rattle.std.proofs.Common.{◌≡◌, ◌≢◌, ◌∙◌, ◌<◌, ◌≤◌, ◌==◌, ◌⊎◌, ℕ, zero, suc, Bool, true, false, Some, List, [], ◌∷◌, length, refl, sym, ap, subst, arith, inl, inr}
-use Rattle.std.specs.Prelude.{filter, cond, All, AllPairs}
+use Rattle.std.proofs.Common.{◌≡◌, ◌≢◌, ◌∙◌, ◌<◌, ◌≤◌, ◌==◌, ◌⊎◌, ℕ, suc, Bool, true, false, Some, List, [], ◌∷◌, length, refl, sym, ap, subst, arith, inl, inr}
+use Rattle.std.specs.Prelude.{cond, All, AllPairs}
 use Rattle.std.specs.List.{slice_get}
 use Rattle.std.proofs.lemmas.Bool.{cases_eq, cases_lt}
-use Rattle.std.proofs.lemmas.Bool.Decides.{nat_tests}
 use Rattle.std.proofs.lemmas.List.Elements.{All-head, All-tail}
 use Rattle.std.proofs.lemmas.Option.{slice_get_within, get_or_from_slice_get}
 use Rattle.kt_names.proofs.PlaceFacts.{same_test, tested}
@@ -11,7 +10,7 @@ use Rattle.kt_part_text.specs.declared.rows.PartRow.{PartRow}
 use Rattle.kt_part_text.specs.Reading.{PartRead}
 use Rattle.kt_part_text.proofs.TextFacts.{one_part}
 use Rattle.kt_merge.specs.Heads.{IsNotLater}
-use Rattle.kt_merge.specs.Merging.{Records, IsPartOf, AreKnown, rows_of, IsMergeOf}
+use Rattle.kt_merge.specs.Merging.{AreKnown, rows_of, IsMergeOf}
 
 -- a row of a process among its rows, and one of another process
 pub of_it : (p : ℕ) (x : PartRow) (xs : List PartRow) → x.row.p ≡ p → rows_of p (x ∷ xs) ≡ x ∷ rows_of p xs

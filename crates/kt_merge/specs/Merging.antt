@@ -1,13 +1,12 @@
 -- One log of many parts.
-use Rattle.std.specs.Prelude.{◌≡◌, ◌≢◌, ◌⊎◌, ◌<◌, ◌≤◌, ◌+◌, ◌==◌, ℕ, Option, Some, None, List, [], ◌∷◌, ◌++◌, length, map, filter, slice_get, All, AllPairs}
+use Rattle.std.specs.Prelude.{◌≡◌, ◌≢◌, ◌⊎◌, ◌<◌, ◌≤◌, ◌+◌, ◌==◌, ℕ, Option, Some, List, [], ◌∷◌, ◌++◌, length, map, filter, slice_get, All, AllPairs}
 use Rattle.std.specs.Io.KnownBytes.{Appends}
-use Rattle.kt_base.specs.Numbers.{IsProcNo}
 use Rattle.kt_spacetime.specs.declared.event.Event.{Event}
 use Rattle.kt_text.specs.Writing.{text_of, WritesFront}
 use Rattle.kt_log_text.specs.Spelling.{spelling}
 use Rattle.kt_log_text.specs.Texts.{header}
 use Rattle.kt_names.specs.declared.rows.NamedRow.{NamedRow}
-use Rattle.kt_names.specs.Names.{Given, nothing_given, given_by, numbered}
+use Rattle.kt_names.specs.Names.{nothing_given, given_by, numbered}
 use Rattle.kt_part_text.specs.declared.rows.PartRow.{PartRow}
 use Rattle.kt_part_text.specs.Reading.{PartRead, IsPartUnread}
 use Rattle.kt_part_text.specs.Texts.{IsPartText, BeginsPart, SaysRow, IsPartFaultFrom, clock_after}

@@ -30,11 +30,7 @@ fn parts_of(alloc: Global, pieces: &[u8]) -> io::Result<Parts<&[u8]>>
 }
 
 /// Adds a part, if there are fewer than 64.
-pub(crate) fn add<R: Read + Drop>(
-    alloc: Global,
-    parts: &mut Parts<R>,
-    reader: R,
-) -> io::Result<()>
+pub(crate) fn add<R: Read + Drop>(alloc: Global, parts: &mut Parts<R>, reader: R) -> io::Result<()>
     ensures { OnOk result (ArePartsUnread parts.old → ArePartsUnread parts.new × (length parts.new ≤ 64)) }
 {
     if parts.count() >= 64 {

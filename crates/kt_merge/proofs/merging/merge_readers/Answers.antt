@@ -1,4 +1,4 @@
-use Rattle.std.proofs.Common.{◌<◌, ℕ, Option, Some, List, length, refl, sym, subst, arith}
+use Rattle.std.proofs.Common.{◌<◌, ℕ, Option, Some, List, length, refl, subst, arith}
 use Rattle.std.proofs.lemmas.Option.{slice_get_read, slice_get_within}
 use Rattle.std.proofs.lemmas.Result.{err_from_is_err_and}
 use Rattle.kt_names.specs.Names.{nothing_given, given_by}

@@ -1,4 +1,4 @@
-use Rattle.std.proofs.Common.{rules, arith, ◌≡◌, ◌+◌, ◌<◌, length, ap, refl, inl, inr}
+use Rattle.std.proofs.Common.{rules, arith, ◌≡◌, ◌+◌, length, ap, refl, inl, inr}
 use Rattle.std.proofs.lemmas.Bool.{cases_lt}
 use Rattle.kt_spacetime.specs.declared.event.Event.TheVariants.{Began}
 use Rattle.kt_merge.proofs.NumberingFacts.{began_numbers}
