@@ -7,3 +7,4 @@ pub mod HeldFacts
 pub mod MergedFacts
 pub mod StopFacts
 pub mod MergingFacts
+mod Rowwise

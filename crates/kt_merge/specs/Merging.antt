@@ -6,7 +6,7 @@ use Rattle.kt_text.specs.Writing.{text_of, WritesFront}
 use Rattle.kt_log_text.specs.Spelling.{spelling}
 use Rattle.kt_log_text.specs.Texts.{header}
 use Rattle.kt_names.specs.declared.rows.NamedRow.{NamedRow}
-use Rattle.kt_names.specs.Names.{nothing_given, given_by, numbered}
+use Rattle.kt_names.specs.Names.{nothing_given, given_by, named, numbered}
 use Rattle.kt_part_text.specs.declared.rows.PartRow.{PartRow}
 use Rattle.kt_part_text.specs.Reading.{PartRead, IsPartUnread}
 use Rattle.kt_part_text.specs.Texts.{IsPartText, BeginsPart, SaysRow, IsPartFaultFrom, clock_after}
@@ -60,6 +60,15 @@ pub record WritesMerge (parts : List PartRead) (old new : Option (List ℕ)) : T
   pub merged : IsMergeOf parts rows
   pub numbers : numbered (without_clocks rows) ≡ Some log
   pub written : Appends old new (log_text log)
+
+-- with names put back, each process's rows of the log that was written are those of its part, in order, without their clocks
+pub record IsRowwise (parts : List PartRead) (old new : Option (List ℕ)) : Type 0 where
+  pub log : List Event
+  pub written : Appends old new (log_text log)
+  pub rows : List NamedRow
+  pub names : named log ≡ Some rows
+  pub each : (p : ℕ) (text : Records) → IsPartOf parts p text
+      → (own : List PartRow) × IsPartText p text own × (filter (λ r. r.p == p) rows ≡ without_clocks own)
 
 -- what is left of a process's part, after its rows among these, begins with a record that says its next row
 abbrev pub SaysNext : ℕ → List PartRow → Records → PartRow → Type 0

@@ -14,6 +14,6 @@ mod rows;
 mod tables;
 
 pub use fault::{MergeFault, RowFault};
-pub use laws::one_merge;
+pub use laws::{names_put_back, one_merge};
 pub use merging::merge_parts;
 pub use parts::Parts;

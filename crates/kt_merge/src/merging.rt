@@ -10,10 +10,11 @@ ghost use Rattle.kt_text.specs.Writing.{line_of, Sends, WritesFront};
 ghost use Rattle.kt_merge.specs.declared.fault.RowFault.{RowFault as row_faults};
 ghost use Rattle.kt_merge.specs.Heads.{GiveHeads};
 ghost use Rattle.kt_merge.specs.Numbering.{ShowsGiven, IsRowFault};
-ghost use Rattle.kt_merge.specs.Merging.{ArePartsUnread, WritesMerge, IsMergeFaultAfter, StopsMerge};
+ghost use Rattle.kt_merge.specs.Merging.{ArePartsUnread, WritesMerge, IsRowwise, IsMergeFaultAfter, StopsMerge};
 
 use crate::fault::MergeFault;
 use crate::heads::least;
+use crate::laws::names_put_back;
 use crate::parts::Parts;
 use crate::rows::{push_header, push_row};
 use crate::tables::Numbers;
@@ -40,8 +41,11 @@ pub fn merge_parts<R: Read + Drop, W: Write>(
     requires few { length parts.old ≤ 64 }
     requires unread { ArePartsUnread parts.old }
     ensures merged { OnOk result (WritesMerge parts.old (W.contents writer.old) (W.contents writer.new)) }
+    // With names put back, the rows of each process are those of its part.
+    ensures rowwise { OnOk result (IsRowwise parts.old (W.contents writer.old) (W.contents writer.new)) }
     ensures stopped { IfErr result (λ e. StopsMerge parts.old (W.contents writer.old) (W.contents writer.new) e) }
 {
+    names_put_back();
     let mut numbers = Numbers::new(alloc)?;
     let mut text = new_text(alloc)?;
     push_header(&mut text)?;
