@@ -2,14 +2,14 @@
 use Rattle.std.proofs.Common.{◌≡◌, ℕ, ℤ, ◌≤◌, Bool, true, false, List, [], length, refl, sym, ap, subst, ◌∙◌, Some, None}
 use Rattle.std.specs.Prelude.{◌⊎◌, is_some, if◌then◌else◌, slice_get}
 use Rattle.kt_base.specs.declared.words.Cause.{Cause}
-use Rattle.kt_base.specs.declared.words.Cause.TheVariants.{Busy, Down, NoSave}
 use Rattle.kt_spacetime.specs.declared.event.Event.TheVariants.{Unwilling}
 use Rattle.kt_cuts.specs.Legal.{IsLegal}
+use Rattle.kt_cuts.specs.Past.{past}
 use Rattle.kt_protocol.specs.Parcels.{Parcel}
 use Rattle.kt_protocol.specs.States.{State, opening}
 use Rattle.kt_protocol.specs.Summary.{Summary, summary}
 use Rattle.kt_protocol.specs.States as machine
-use Rattle.kt_protocol.specs.Refusals as protocol_refusals
+use Rattle.kt_protocol.specs.SummaryMeaning.{AgreesWith}
 use Rattle.kt_protocol.specs.AtRest as protocol_at_rest
 use Rattle.kt_protocol.proofs.SummaryTies.{tied}
 use Rattle.kt_protocol.proofs.LawfulSteps.{lawful_after_run}
@@ -35,7 +35,8 @@ use Rattle.kt_plans.specs.Defaults.{default_step}
 use Rattle.kt_plans.specs.Runs.{RunReaches}
 use Rattle.kt_plans.specs.Order.{comes_before}
 use Rattle.kt_plans.specs.AtRest.{HasNothingInTransit}
-use Rattle.kt_plans.specs.Unwilling.{MayRefuseToJoin, IsUnwillingStep}
+use Rattle.kt_plans.specs.Unwilling.{IsUnwillingStep}
+use Rattle.kt_plans.proofs.RefusedAsks.{refuses_by_log}
 use Rattle.kt_plans.proofs.SameSteps.{enabled_same, rest_same, after_same}
 use Rattle.kt_plans.proofs.SameLooks.{look_same}
 use Rattle.kt_plans.proofs.ReachedRuns.{carry}
@@ -101,17 +102,21 @@ gives_same plan first w x a b i r = carry plan first w (λ v. enabled plan v x �
     ∙ after_same plan first g x b k))
 
 -- a step that may be unwilling
-refuse_seen : (first : ℕ) (s : State) (p q k : ℕ) (able : Bool) (c : Cause) → protocol_refusals.MayBeUnwilling s p q k able c → MayRefuseToJoin s.so_far (seen first s) p q k able c
-refuse_seen first s p q k able (Busy j) m = record { member = m.member; undecided = m.undecided; cause = (let b = m.cause in record { positive = b.positive; open_in = b.open_in; other = b.other; received = b.received; sent = b.sent }) }
-refuse_seen first s p q k able Down m = record { member = m.member; undecided = m.undecided; cause = (let f = m.cause.0 in record { checkpoint = f.checkpoint; closed = f.closed; has_to = f.has_to }, m.cause.1) }
-refuse_seen first s p q k able NoSave m = record { member = m.member; undecided = m.undecided; cause = (let f = m.cause.0 in record { checkpoint = f.checkpoint; closed = f.closed; has_to = f.has_to }, m.cause.1, m.cause.2) }
+up_late : (n : ℕ) (steps : List machine.ProtocolStep) (p : ℕ) → (late_run (opening n) steps).up p ≡ (past (late_run (opening n) steps).log).up p
+up_late n steps p = subst (λ (s : State). s.up p ≡ (past s.log).up p) (sym (agrees_after_run n steps).same) ((lawful_after_run n steps).is_up p)
+
+up_is : (plan : Planned) (g : MachineProgress) (k : RunFacts plan g) (p : ℕ) → g.state.up p ≡ (past g.state.log).up p
+up_is plan g k p = subst (λ (s : State). s.up p ≡ (past s.log).up p) (sym k.state_is) (up_late (length plan.names) k.steps p)
+
+tie : (plan : Planned) (g : MachineProgress) (k : RunFacts plan g) → AgreesWith g.state.so_far (past g.state.log)
+tie plan g k = subst (λ (h : Summary). AgreesWith h (past g.state.log)) (sym (numbers_are plan g k)) (tied g.state.log (legal_progress plan g k))
 
 unwilling_progress : (plan : Planned) (first : ℕ) (g : MachineProgress) (x : Step) (give : Give) (t p k : ℕ) (c : Cause) → RunFacts plan g → IsUnwillingMachineStep g x give t p k c → IsUnwillingStep (world_of first g) x give t p k c
 unwilling_progress plan first g x give t p k c h u = record {
   from = u.from;
   step = u.step;
   row = u.row;
-  justified = subst (λ (y : Summary). MayRefuseToJoin y (seen first g.state) p u.from k give.able c) (numbers_are plan g h) (refuse_seen first g.state p u.from k give.able c u.justified);
+  justified = refuses_by_log g.state p u.from k give.able c (tie plan g h) (up_is plan g h p) u.justified;
 }
 
 pub unwilling_seen : (plan : Planned) (first : ℕ) (w : Progress) (x : Step) (give : Give) (t p k : ℕ) (c : Cause) → IsPlan plan → RunReaches plan first w → enabled plan w x ≡ true →

@@ -5,6 +5,7 @@ pub mod SameLooks
 pub mod ReachedRuns
 pub mod RunSteps
 pub mod DefaultSteps
+pub mod RefusedAsks
 pub mod ActsOfSteps
 pub mod RunsEnd
 pub mod LinesOfRuns

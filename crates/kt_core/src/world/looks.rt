@@ -319,8 +319,8 @@ impl World {
         }
     }
 
-    /// The processes that may have an enabled step: those for which there are parcels, and those whose next command is of
-    /// the open phase.
+    /// Processes outside of which none has an enabled step: those for which there are parcels, and those whose next command is
+    /// of the open phase. Some of them may have none.
     #[inline(always)]
     pub fn may_step(&self) -> ProcSet
         ensures { HasNoOthers self.now result }
