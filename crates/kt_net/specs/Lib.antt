@@ -1,0 +1,10 @@
+pub use Rattle.kt_values.specs.SeenActs
+pub use Rattle.kt_names.specs.Names
+pub mod Nodes
+pub mod NodeMessages
+pub mod NodeJoining
+pub mod NodeClosing
+pub mod NodeSteps
+pub mod Nets
+pub mod Erasing
+pub mod Clocks

@@ -1,0 +1,80 @@
+//! Laws of nets; there is nothing to run.
+
+ghost use Rattle.std.specs.Prelude.{◌≡◌, ℕ, Some, List, map};
+ghost use Rattle.kt_spacetime.specs.declared.event.Event.{Event};
+ghost use Rattle.kt_tables.specs.Calls.{Speaks};
+ghost use Rattle.kt_protocol.specs.States.{ProtocolStep, opening};
+ghost use Rattle.kt_closing.specs.LateSteps.{late_run};
+ghost use Rattle.kt_seen.specs.Seen.{seen};
+ghost use Rattle.kt_names.specs.Names.{numbered};
+ghost use Rattle.kt_values.specs.SeenActs.{seen_acts};
+ghost use Rattle.kt_plans.specs.Headline.{IsPromised, IsCertified};
+ghost use Rattle.kt_net.specs.Nets.{net_step, net_run, opening_net, net_acts};
+ghost use Rattle.kt_net.specs.Clocks.{ClockedRow, clocked_run, opening_clocked, rows_of, AreByClock};
+ghost use Rattle.kt_net.specs.Erasing.{name_in, erased_node, erased_parcels, rows_from};
+
+/// For every number of nodes, every label that they count on from, and every list of steps: a net is what is seen of
+/// kt_closing's machine after the same steps, by the names that its log gives; and its rows are that log.
+pub fn nets_are_runs()
+    ensures nodes { (n first : ℕ) (steps : List ProtocolStep) (p : ℕ) →
+        (net_run (opening_net n first) steps).nodes p
+        ≡ erased_node (name_in (late_run (opening n) steps).log) (seen first (late_run (opening n) steps)) p }
+    ensures channels { (n first : ℕ) (steps : List ProtocolStep) (p q : ℕ) →
+        (net_run (opening_net n first) steps).channel p q
+        ≡ erased_parcels (name_in (late_run (opening n) steps).log) ((seen first (late_run (opening n) steps)).channel p q) }
+    ensures numbered { (n first : ℕ) (steps : List ProtocolStep) →
+        numbered (rows_from first (net_run (opening_net n first) steps).rows) ≡ Some (late_run (opening n) steps).log }
+
+    // Tables answer for the list of calls of each node, also after one more step.
+    ensures speaks { (n first : ℕ) (steps : List ProtocolStep) (p : ℕ) →
+        Speaks (((net_run (opening_net n first) steps).nodes p).calls) }
+    ensures speaks_next { (n first : ℕ) (steps : List ProtocolStep) (x : ProtocolStep) (p : ℕ) →
+        Speaks (((net_step (net_run (opening_net n first) steps) x).nodes p).calls) }
+{}
+
+/// The log of a net, whichever label its nodes count on from: all is promised of it that is promised of a run's.
+pub fn logs_of_nets()
+    ensures promised { (n first : ℕ) (steps : List ProtocolStep) (log : List Event) →
+        numbered (rows_from first (net_run (opening_net n first) steps).rows) ≡ Some log → IsPromised log }
+
+    // So it has certificates, and they pass.
+    ensures certified { (n first : ℕ) (steps : List ProtocolStep) (log : List Event) →
+        numbered (rows_from first (net_run (opening_net n first) steps).rows) ≡ Some log → IsCertified log }
+{
+    nets_are_runs();
+    kt_closing::logs_of_late_runs();
+    kt_plans::certificates_of_promised_logs();
+}
+
+/// At each step of a net the acts of the node that steps are those of the process that steps, by what is seen of
+/// kt_closing's machine: so what is due to an object of a run is due to one of a net.
+pub fn acts_of_nets()
+    ensures same { (n first : ℕ) (steps : List ProtocolStep) (x : ProtocolStep) →
+        net_acts (net_run (opening_net n first) steps) x ≡ seen_acts (seen first (late_run (opening n) steps)) x }
+{}
+
+/// Files of single processes are enough: the rows of a net with clocks, sorted by clock and then by process, are those of
+/// another run of it, in which each process has the same rows with the same clocks.
+pub fn order_of_nets()
+    // Without its clocks it is a net.
+    ensures unclocked { (n first : ℕ) (steps : List ProtocolStep) →
+        map (λ r. r.row) (clocked_run (opening_clocked n first) steps).rows ≡ (net_run (opening_net n first) steps).rows }
+
+    // Sorted so, its rows are those of another run, and each process has its rows there.
+    ensures sorted { (n first : ℕ) (steps : List ProtocolStep) →
+        (ys : List ProtocolStep) × AreByClock 0 0 (clocked_run (opening_clocked n first) ys).rows
+        × ((p : ℕ) → rows_of p (clocked_run (opening_clocked n first) ys).rows
+        ≡ rows_of p (clocked_run (opening_clocked n first) steps).rows) }
+
+    // There is one way to sort them: so whatever is sorted and has these parts is the rows of a run, and all is
+    // promised of its log.
+    ensures merged { (n first : ℕ) (steps : List ProtocolStep) (rows : List ClockedRow) → AreByClock 0 0 rows →
+        ((p : ℕ) → rows_of p rows ≡ rows_of p (clocked_run (opening_clocked n first) steps).rows) →
+        (ys : List ProtocolStep) × (rows ≡ (clocked_run (opening_clocked n first) ys).rows) }
+    ensures promised { (n first : ℕ) (steps : List ProtocolStep) (rows : List ClockedRow) (log : List Event) →
+        AreByClock 0 0 rows →
+        ((p : ℕ) → rows_of p rows ≡ rows_of p (clocked_run (opening_clocked n first) steps).rows) →
+        numbered (rows_from first (map (λ r. r.row) rows)) ≡ Some log → IsPromised log }
+{
+    logs_of_nets();
+}
