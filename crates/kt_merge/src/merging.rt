@@ -13,6 +13,7 @@ ghost use Rattle.kt_merge.specs.Numbering.{ShowsGiven, IsRowFault};
 ghost use Rattle.kt_merge.specs.Merging.{ArePartsUnread, WritesMerge, IsRowwise, IsMergeFaultAfter, StopsMerge};
 
 use crate::fault::MergeFault;
+use crate::giver::missing_at;
 use crate::heads::least;
 use crate::laws::names_put_back;
 use crate::parts::Parts;
@@ -50,7 +51,9 @@ pub fn merge_parts<R: Read + Drop, W: Write>(
     let mut text = new_text(alloc)?;
     push_header(&mut text)?;
     let (readers, heads) = (&mut parts.readers, &mut parts.heads);
-    merge_readers(readers, heads, &mut numbers, &mut text, writer)
+    let merged = merge_readers(readers, heads, &mut numbers, &mut text, writer);
+    parts.missing = missing_at(&parts.heads, &numbers, &merged);
+    merged
 }
 
 // The same, with the tables of what no row gave yet, and the text that is gathered.

@@ -137,9 +137,9 @@ impl Numbers {
         &self.gave[p.index()]
     }
 
-    // The number of a message.
+    /// The number of a message.
     #[inline(always)]
-    fn message(&self, from: ProcNo, label: Count) -> Result<MsgNo, RowFault>
+    pub(crate) fn message(&self, from: ProcNo, label: Count) -> Result<MsgNo, RowFault>
         ensures found { IfOk result (λ m. (g : Given) → ShowsGiven self.now g → message_number g from label ≡ Some m) }
         ensures fault { IfErr result (λ e. (e ≡ RowFault.NotSent) × ((g : Given) → ShowsGiven self.now g
             → message_number g from label ≡ None)) }
@@ -150,9 +150,9 @@ impl Numbers {
         }
     }
 
-    // The number of an instance.
+    /// The number of an instance.
     #[inline(always)]
-    fn instance(&self, inst: InstName) -> Result<InstNo, RowFault>
+    pub(crate) fn instance(&self, inst: InstName) -> Result<InstNo, RowFault>
         ensures found { IfOk result (λ k. (g : Given) → ShowsGiven self.now g → instance_number g inst ≡ Some k) }
         ensures fault { IfErr result (λ e. (e ≡ RowFault.NotBegun) × ((g : Given) → ShowsGiven self.now g
             → instance_number g inst ≡ None)) }

@@ -4,17 +4,20 @@ ghost use Rattle.std.specs.Prelude.{◌≡◌, ◌<◌, ◌≤◌, [], ◌∷◌
 ghost use Rattle.kt_part_text.specs.Reading.{part_unread};
 ghost use Rattle.kt_merge.specs.Merging.{ArePartsUnread};
 
+use crate::giver::Name;
 use kt_base::{Memory, ProcNo};
 use kt_part_text::{PartReader, PartRow};
 use std::alloc::Global;
 use std::io::Read;
 use std::marker::Model;
 
-/// Readers of the parts of processes 0, 1 and so on, and the next row of each, as far as it was read.
+/// Readers of the parts of processes 0, 1 and so on, the next row of each, as far as it was read, and the name that was missing
+/// where a merge stopped.
 #[derive(Drop)]
 pub struct Parts<R: Read + Drop> {
     pub(crate) readers: Vec<PartReader<R>>,
     pub(crate) heads: Vec<Option<PartRow>>,
+    pub(crate) missing: Option<Name>,
 }
 
 impl<R: Read + Drop> Model for Parts<R> {
@@ -35,6 +38,7 @@ impl<R: Read + Drop> Parts<R> {
         Parts {
             readers: Vec::new(alloc),
             heads: Vec::new(alloc),
+            missing: None,
         }
     }
 

@@ -12,6 +12,7 @@ use crate::fault::PartFault;
 use crate::rows::{PartRow, row_of};
 use csv::{ByteRecord, Reader};
 use kt_base::{Memory, ProcNo};
+use kt_log_text::Record;
 use kt_text::records::{next_record, read_records};
 use std::alloc::Global;
 use std::io::Read;
@@ -201,6 +202,22 @@ impl<R: Read + Drop> PartReader<R> {
                 Err(fault)
             }
         }
+    }
+
+    /// The record that was read last; `None` where there is no memory for it.
+    pub fn record(&self) -> Option<Record> {
+        match self.current.clone() {
+            Ok(fields) => Some(Record {
+                fields,
+                end: self.records.position(),
+            }),
+            Err(_) => None,
+        }
+    }
+
+    /// The reader underneath.
+    pub fn source(&self) -> &R {
+        self.records.get_ref()
     }
 }
 

@@ -1,9 +1,9 @@
 -- Outputs that are apart, as far as a list of them was looked through.
-use Rattle.std.proofs.Common.{◌<◌, ◌+◌, ℕ, List, length, sym, subst, arith, All, slice_index_or, take}
+use Rattle.std.proofs.Common.{◌<◌, ◌+◌, ℕ, List, [], length, sym, subst, arith, All, slice_index_or, take}
 use Rattle.std.specs.Prelude.{Some, None}
 use Rattle.std.proofs.lemmas.List.{get_or_default, get_or-take, length-take}
 use borrow.Author.Count.{below_more}
-use Rattle.kt_program.specs.Names.{Apart, IsDevice, IsEachApart, Name}
+use Rattle.kt_program.specs.Names.{Apart, IsDevice, IsEachApart, Name, ReadOnce}
 use Rattle.kt_program.specs.Files.{AreTwo, OpenedFile}
 
 pub names_sym : (one other : Name) → Apart one other → Apart other one
@@ -17,6 +17,16 @@ files_sym (Some one) (Some other) two = λ e. two (sym e)
 files_sym (Some one) None two = tt
 files_sym None (Some other) two = tt
 files_sym None None two = tt
+
+pub reads_sym : (one other : Name) → ReadOnce one other → ReadOnce other one
+reads_sym (Some one) (Some other) once = λ e f. once f e
+reads_sym (Some one) None once = tt
+reads_sym None (Some other) once = tt
+reads_sym None None once = tt
+
+-- what holds of each item of an empty list
+pub all_none : {X : Type 0} (P : X → Type 0) → All P []
+all_none P k d l = absurd (omega arith)
 
 -- the first so many outputs are apart
 pub record IsApartTo {X : Type 0} (Apart : X → X → Type 0) (inputs outputs : List X) (count : ℕ) : Type 0 where

@@ -17,3 +17,6 @@ pub mod KeptRuns
 pub mod OrderedRuns
 pub mod MadeRuns
 pub mod Lifts
+pub mod MergedLogs
+pub mod NamedParts
+pub mod Clashes

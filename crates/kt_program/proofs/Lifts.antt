@@ -1,19 +1,22 @@
 -- What is done for words that ask for it, or refused.
-use Rattle.std.proofs.Common.{◌≡◌, ◌≢◌, ◌⊎◌, List, inl, inr, refl, subst, sym}
+use Rattle.std.proofs.Common.{◌≡◌, ◌≢◌, ◌⊎◌, ◌≤◌, List, Option, length, inl, inr, refl, subst, sym}
 use Rattle.std.specs.Prelude.{Result, Ok, Err, Some, None, IfOk, IfErr, OnOk}
-use Rattle.clap.specs.Words.{Text, subcommand_of}
+use Rattle.clap.specs.Words.{Row, Text, subcommand_of}
 use Rattle.kt_program.specs.declared.ending.Done.{Done}
-use Rattle.kt_program.specs.declared.ending.Done.TheVariants.{Drawn, Played}
+use Rattle.kt_program.specs.declared.ending.Done.TheVariants.{Drawn, Merged, Played}
 use Rattle.kt_program.specs.declared.fault.AppFault.TheVariants as app
 use Rattle.kt_program.specs.declared.fault.Failure.{Failure}
 use Rattle.kt_program.specs.declared.fault.ProgramFault.{ProgramFault}
 use Rattle.kt_program.specs.declared.fault.ProgramFault.TheVariants as program
 use Rattle.kt_program.specs.declared.line.Asked.{Asked}
+use Rattle.kt_program.specs.declared.line.Asked.TheVariants.{Merge}
 use Rattle.kt_program.specs.declared.line.Drawing.{Drawing}
+use Rattle.kt_program.specs.declared.line.Merging.{Merging}
 use Rattle.kt_program.specs.declared.line.Run.{Run}
-use Rattle.kt_program.specs.Asking.{Ask, DoneFor, EndsFor, IsDraw, IsOfRun, IsOfScenario, IsOfSteps, RefusedFor}
+use Rattle.kt_program.specs.Asking.{Ask, DoneFor, EndsFor, IsDraw, IsMerge, IsOfRun, IsOfScenario, IsOfSteps, RefusedFor}
 use Rattle.kt_program.specs.Drawn.{DrawsTo, IsOfDrawing}
-use Rattle.kt_program.specs.Ending.{AppendsRun, DrawnFor, DrawsFor, IsInReport, IsOfJudging, IsOfNamedSteps, LeavesOutput, LeavesPlayed, PlayedFor, Plays}
+use Rattle.kt_program.specs.Ending.{AppendsRun, DrawnFor, DrawsFor, IsInReport, IsOfJudging, IsOfNamedSteps, LeavesOutput, LeavesPlayed, MergedFor, MergesFor, PlayedFor, Plays}
+use Rattle.kt_program.specs.Merged.{IsOfMerging, LeavesMerge, MergesTo}
 use Rattle.kt_program.specs.Names.{IsApart, IsNamed, Name}
 use Rattle.kt_program.specs.Program.{NamesAsked, program as definition}
 use Rattle.kt_program.specs.Stored.{BytesTold}
@@ -58,6 +61,7 @@ module _ (words : List Text) (asked : Asked) (named : NamesAsked (subcommand_of 
   run_left old new (program.App (app.Uncertified fault)) run left w = inl (left w (λ e. cc (e)))
   run_left old new (program.App (app.Unfit fault)) run left w = inl (left w (λ e. cc (e)))
   run_left old new (program.App (app.Picture fault)) run left w = inl (left w (λ e. cc (e)))
+  run_left old new (program.App (app.Merge fault)) run left w = inl (left w (λ e. cc (e)))
 
   pub run_leaves : (old new : BytesTold) (result : Result Done Failure) → IsOfRun asked → IfOk result (λ what. what ≡ Played) → LeavesPlayed result old new → LeavesOutput words result old new
   run_leaves old new (Ok what) run done leaves = rw done leaves
@@ -95,3 +99,30 @@ module _ (words : List Text) (asked : Asked) (named : NamesAsked (subcommand_of 
       → IfOk result (λ what. what ≡ Drawn) → OnOk result (DrawsTo told drawing old new) → IfOk result (DrawnFor words told old new)
   draw_drawn told old new drawing (Ok what) draws done drawn = rw done (asked, named, apart, draws drawn)
   draw_drawn told old new drawing (Err failure) draws done drawn = tt
+
+  -- parts are merged, or not
+  unmerged : (fault : ProgramFault) → IsOfMerging fault → RefusedFor words fault
+  unmerged program.SameFile of = (asked, named, apart, tt)
+  unmerged (program.App fault) of = tt
+  unmerged program.Line of = absurd of
+  unmerged (program.Scenario fault) of = absurd of
+  unmerged (program.Steps fault) of = absurd of
+  unmerged program.Read of = absurd of
+
+  pub merge_ends : (result : Result Done Failure) → IsMerge asked → IfOk result (λ what. what ≡ Merged) → IfErr result (λ failure. IsOfMerging failure.fault) → EndsFor words result
+  merge_ends (Ok what) merge done of = subst (DoneFor words) (sym done) (asked, named, apart, merge)
+  merge_ends (Err failure) merge done of = unmerged failure.fault of
+
+  pub merge_leaves : (old new : BytesTold) (result : Result Done Failure) → IfOk result (λ what. what ≡ Merged) → LeavesMerge result old new → LeavesOutput words result old new
+  merge_leaves old new (Ok what) done leaves = rw done leaves
+  merge_leaves old new (Err failure) done leaves = λ w. inl (leaves w)
+
+  pub merge_merged : {F : Type 0} (told : F → BytesTold) (old new : BytesTold) (merging : Merging) (result : Result Done Failure) → (MergesTo told merging old new → MergesFor told old new asked)
+      → IfOk result (λ what. what ≡ Merged) → OnOk result (MergesTo told merging old new) → IfOk result (MergedFor words told old new)
+  merge_merged told old new merging (Ok what) merges done made = rw done (asked, named, apart, merges made)
+  merge_merged told old new merging (Err failure) merges done made = tt
+
+-- words name no more parts than there are processes
+pub few_parts : (o : Option (Text × List Row)) (merging : Merging) → NamesAsked o (Merge merging) → length merging.parts.items ≤ 64
+few_parts None merging named = absurd named
+few_parts (Some (name, rows)) merging named = named.1.few

@@ -14,7 +14,7 @@ use Rattle.kt_run.specs.declared.orders.Order.TheVariants.{Default, Drawn}
 use Rattle.kt_run.specs.declared.faults.RunFault.{RunFault}
 use Rattle.kt_run.specs.declared.faults.RunFault.TheVariants as run_fault
 use Rattle.kt_spacetime.specs.declared.event.Event.{Event}
-use Rattle.kt_threads.specs.Faults.{is_live_of_cast}
+use Rattle.kt_threads.specs.Faults.{is_of_no_thread}
 use Rattle.kt_threads.specs.declared.faults.LiveFault.{LiveFault}
 use Rattle.kt_threads.specs.declared.faults.LiveFault.TheVariants as live_fault
 use Rattle.kt_program.specs.declared.fault.AppFault.{AppFault}
@@ -96,7 +96,7 @@ module _ (by : By) (order : Order) (plan : Planned) (given : List Step) where
   serial_fault (run_fault.Journal p) serial right objects untold refused = absurd (untold p refl)
   serial_fault (run_fault.Step done why) serial right objects untold refused = record { serial = serial; found = λ e. cc (e); right = right; objects = objects; untold = untold; refused = refused }
 
-  pub threads_fault : (fault : LiveFault) → by ≡ Threads → is_live_of_cast fault ≡ false → ((p : ℕ) → fault ≢ live_fault.Object p) → IsFaultOverNew by order plan given (of_live fault)
+  pub threads_fault : (fault : LiveFault) → by ≡ Threads → is_of_no_thread fault ≡ false → ((p : ℕ) → fault ≢ live_fault.Object p) → IsFaultOverNew by order plan given (of_live fault)
   threads_fault live_fault.Memory threads right objects = tt
   threads_fault live_fault.CastSize threads right objects = record { threads = threads; found = λ e. cc (e); right = right; objects = objects }
   threads_fault (live_fault.CastKind p) threads right objects = record { threads = threads; found = λ e. cc (e); right = right; objects = objects }

@@ -27,11 +27,11 @@ module _ (plan : Planned) (given : List (List ℕ)) (sizes : HasSizes plan.kinds
   right_for_run (run_fault.Step done why) a = refl
   right_for_run run_fault.Memory a = refl
 
-  pub right_for_live : (fault : LiveFault) → threads.AnswersLive plan given fault → threads.is_live_of_cast fault ≡ false
+  pub right_for_live : (fault : LiveFault) → threads.AnswersLive plan given fault → threads.is_of_no_thread fault ≡ false
   right_for_live live_fault.CastSize a = absurd (a sizes)
   right_for_live (live_fault.CastKind p) a = absurd (a.other (kinds p a.there))
   right_for_live (live_fault.Object p) a = refl
-  right_for_live (live_fault.Journal p) a = refl
+  right_for_live (live_fault.Journal p) a = absurd a
   right_for_live (live_fault.Step why) a = refl
   right_for_live live_fault.Spawn a = refl
   right_for_live live_fault.Differ a = refl

@@ -33,6 +33,7 @@ module _ (Are Be : List Step → List Event → Type 0) (so : (steps : List Step
   recording_so (app.Uncertified fault) s = s
   recording_so (app.Unfit why) s = s
   recording_so (app.Picture why) s = s
+  recording_so (app.Merge fault) s = s
   recording_so (app.Log fault) s = s
   recording_so (app.Cert fault) s = s
 
@@ -47,6 +48,7 @@ report_kept Are plan old new (app.Live fault) s w m = ap (λ (o : KeptOutputs). 
 report_kept Are plan old new (app.Uncertified fault) s w m = absurd s
 report_kept Are plan old new (app.Unfit why) s w m = absurd s
 report_kept Are plan old new (app.Picture why) s w m = absurd s
+report_kept Are plan old new (app.Merge fault) s w m = absurd s
 report_kept Are plan old new (app.Log fault) s w m = absurd s
 report_kept Are plan old new (app.Cert fault) s w m = absurd s
 

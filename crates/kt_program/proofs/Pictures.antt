@@ -56,6 +56,7 @@ unread_run span log cert (app.Uncertified fault) write h = h
 unread_run span log cert (app.Unfit why) write h = h
 unread_run span log cert app.RecordTooLong write h = h
 unread_run span log cert (app.Picture why) write h = absurd h
+unread_run span log cert (app.Merge fault) write h = absurd h
 
 -- it is not drawn
 of_run_fault : (span : Span) (log cert : BytesTold) (read : List Event) (fault : DrawFault) → SaysRows log read → IsUndrawnLog span read fault → IsUndrawnRun span log cert (of_draw fault)

@@ -7,12 +7,12 @@ use Rattle.clap.specs.declared.error.kind.ErrorKind.TheVariants.{OutOfMemory, Di
 use Rattle.kt_program.specs.declared.ask.AskFault.{AskFault}
 use Rattle.kt_program.specs.declared.ask.AskFault.TheVariants as ask
 use Rattle.kt_program.specs.declared.ending.Done.{Done}
-use Rattle.kt_program.specs.declared.ending.Done.TheVariants.{Judged, Played, Certified, Drawn, Shown}
+use Rattle.kt_program.specs.declared.ending.Done.TheVariants.{Judged, Played, Certified, Drawn, Merged, Shown}
 use Rattle.kt_program.specs.declared.fault.Failure.{Failure}
 use Rattle.kt_program.specs.declared.fault.ProgramFault.{ProgramFault}
 use Rattle.kt_program.specs.declared.fault.ProgramFault.TheVariants as program
 use Rattle.kt_program.specs.declared.line.Asked.{Asked}
-use Rattle.kt_program.specs.declared.line.Asked.TheVariants.{Certify, Check, Draw, Judge, Live, Play, Run}
+use Rattle.kt_program.specs.declared.line.Asked.TheVariants.{Certify, Check, Draw, Judge, Live, Merge, Play, Run}
 use Rattle.kt_program.specs.Names.{IsApart, IsNamed}
 use Rattle.kt_program.specs.Program.{IsErrorFor, NamesAsked, program as definition}
 
@@ -67,6 +67,11 @@ abbrev pub IsDraw : Asked → Type 0
 IsDraw (Draw asked) = Unit {0}
 IsDraw _ = ⊥
 
+-- whether parts are to be merged
+abbrev pub IsMerge : Asked → Type 0
+IsMerge (Merge asked) = Unit {0}
+IsMerge _ = ⊥
+
 -- whether a scenario is to be read: to be run, or for the names of its objects
 abbrev pub IsOfScenario : Asked → Type 0
 IsOfScenario (Draw asked) = IsNamed asked.names
@@ -76,7 +81,7 @@ IsOfScenario asked = IsOfRun asked
 abbrev pub Ask : List Text → (Asked → Type 0) → Type 0
 Ask words P = (asked : Asked) × NamesAsked (subcommand_of definition words) asked × IsApart asked × P asked
 
--- what is done for words: a scenario run, a run judged, a log certified or drawn where they name that; help shown where they
+-- what is done for words: a scenario run, a run judged, a log certified or drawn or parts merged where they name that; help shown where they
 -- ask for it; they are refused where they are a mistake or name a file twice, as one file under two names where a file is to
 -- be written, and a scenario or steps where they name them; other faults come with any words
 abbrev pub DoneFor : List Text → Done → Type 0
@@ -84,6 +89,7 @@ DoneFor words (Judged passed) = Ask words IsCheck
 DoneFor words Played = Ask words IsOfRun
 DoneFor words Certified = Ask words IsCertify
 DoneFor words Drawn = Ask words IsDraw
+DoneFor words Merged = Ask words IsMerge
 DoneFor words Shown = AreAnswered words IsRequest
 
 -- what is refused for words

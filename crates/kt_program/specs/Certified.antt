@@ -49,6 +49,7 @@ IsUncertified bytes (app.Run fault) = ⊥
 IsUncertified bytes (app.Live fault) = ⊥
 IsUncertified bytes (app.Uncertified fault) = ⊥
 IsUncertified bytes (app.Picture why) = ⊥
+IsUncertified bytes (app.Merge fault) = ⊥
 
 -- a fault of a stored log, as the program answers it
 abbrev pub of_stream : StreamFault → AppFault

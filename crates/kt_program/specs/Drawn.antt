@@ -36,6 +36,7 @@ IsUndrawn span bytes (app.Live fault) = ⊥
 IsUndrawn span bytes (app.Uncertified fault) = ⊥
 IsUndrawn span bytes (app.Unfit why) = ⊥
 IsUndrawn span bytes app.RecordTooLong = ⊥
+IsUndrawn span bytes (app.Merge fault) = ⊥
 
 -- a fault of a stored log that is drawn, as the program answers it
 abbrev pub of_draw : DrawFault → AppFault
@@ -61,6 +62,7 @@ IsUndrawnRun span log cert (app.Live fault) = ⊥
 IsUndrawnRun span log cert (app.Uncertified fault) = ⊥
 IsUndrawnRun span log cert (app.Unfit why) = ⊥
 IsUndrawnRun span log cert app.RecordTooLong = ⊥
+IsUndrawnRun span log cert (app.Merge fault) = ⊥
 
 -- the names of processes: those of the scenario that a file says, where one is named, and else none
 abbrev pub AreNamesOf : {F : Type 0} → (F → BytesTold) → Name → List (List ℕ) → Type 0

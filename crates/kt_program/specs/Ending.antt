@@ -12,19 +12,20 @@ use Rattle.kt_plans.specs.Headline.{IsPromised}
 use Rattle.kt_judge.specs.Answers.{passes}
 use Rattle.kt_judge.specs.declared.answer.Answer.{Answer}
 use Rattle.kt_program.specs.declared.ending.Done.{Done}
-use Rattle.kt_program.specs.declared.ending.Done.TheVariants.{Judged, Played, Certified, Drawn, Shown}
+use Rattle.kt_program.specs.declared.ending.Done.TheVariants.{Judged, Played, Certified, Drawn, Merged, Shown}
 use Rattle.kt_program.specs.declared.fault.AppFault.TheVariants as app
 use Rattle.kt_program.specs.declared.fault.Failure.{Failure}
 use Rattle.kt_program.specs.declared.fault.ProgramFault.{ProgramFault}
 use Rattle.kt_program.specs.declared.fault.ProgramFault.TheVariants as program
 use Rattle.kt_program.specs.declared.line.Asked.{Asked}
 use Rattle.kt_program.specs.declared.line.Run.{Run as RunAsked}
-use Rattle.kt_program.specs.declared.line.Asked.TheVariants.{Certify, Check, Draw, Judge, Live, Play, Run}
+use Rattle.kt_program.specs.declared.line.Asked.TheVariants.{Certify, Check, Draw, Judge, Live, Merge, Play, Run}
 use Rattle.kt_program.specs.Asking.{Ask, IsOfRun}
 use Rattle.kt_run.specs.Runs.{IsLogOfRun}
 use Rattle.kt_program.specs.Certified.{CertifiesTo, LeavesCertificates}
 use Rattle.kt_program.specs.Drawn.{DrawsTo, LeavesPicture}
 use Rattle.kt_program.specs.Judging.{AnswersFiles}
+use Rattle.kt_program.specs.Merged.{LeavesLog, MergesTo}
 use Rattle.kt_program.specs.Inputs.{AreGiven, IsPlanOfFile}
 use Rattle.kt_program.specs.Names.{Name}
 use Rattle.kt_program.specs.Played.{OverNew}
@@ -108,6 +109,7 @@ LeavesDone (Judged passed) old new = AppendsAnswer passed old new
 LeavesDone Played old new = AppendsReport old new
 LeavesDone Certified old new = LeavesCertificates old new
 LeavesDone Drawn old new = LeavesPicture old new
+LeavesDone Merged old new = LeavesLog old new
 LeavesDone Shown old new = Unit {0}
 
 -- what is written for what is asked: the report of a run of the scenario, made as is asked
@@ -152,6 +154,16 @@ DrawsFor told old new _ = ⊥
 abbrev pub DrawnFor : {F : Type 0} → List Text → (F → BytesTold) → BytesTold → BytesTold → Done → Type 0
 DrawnFor words told old new Drawn = Ask words (DrawsFor told old new)
 DrawnFor words told old new _ = Unit {0}
+
+-- what is written of parts that are to be merged: their log goes where that is asked
+abbrev pub MergesFor : {F : Type 0} → (F → BytesTold) → BytesTold → BytesTold → Asked → Type 0
+MergesFor told old new (Merge asked) = MergesTo told asked old new
+MergesFor told old new _ = ⊥
+
+-- where parts were merged, that is written which these words ask for
+abbrev pub MergedFor : {F : Type 0} → List Text → (F → BytesTold) → BytesTold → BytesTold → Done → Type 0
+MergedFor words told old new Merged = Ask words (MergesFor told old new)
+MergedFor words told old new _ = Unit {0}
 
 -- a fault where part of a report may be written: there was no memory for more of it
 abbrev pub IsInReport : List Text → ProgramFault → Type 0

@@ -4,6 +4,10 @@ use Rattle.kt_log_text.specs.declared.fault.LogFault.{LogFault}
 use Rattle.kt_log_text.specs.declared.fault.LogFault.TheVariants as log
 use Rattle.kt_chain.specs.declared.fault.CertTextFault.{CertTextFault}
 use Rattle.kt_chain.specs.declared.fault.CertTextFault.TheVariants as cert
+use Rattle.kt_part_text.specs.declared.fault.PartFault.{PartFault}
+use Rattle.kt_part_text.specs.declared.fault.PartFault.TheVariants as part
+use Rattle.kt_merge.specs.declared.fault.MergeFault.{MergeFault}
+use Rattle.kt_merge.specs.declared.fault.MergeFault.TheVariants as merge
 use Rattle.kt_core.specs.declared.faults.StepFault.{StepFault}
 use Rattle.kt_core.specs.declared.faults.StepFault.TheVariants as step
 use Rattle.kt_run.specs.declared.faults.RunFault.{RunFault}
@@ -28,6 +32,17 @@ cert_status cert.Read = 3
 cert_status cert.Memory = 4
 cert_status _ = 2
 
+abbrev pub part_status : PartFault → ℕ
+part_status part.Read = 3
+part_status part.Memory = 4
+part_status _ = 2
+
+abbrev pub merge_status : MergeFault → ℕ
+merge_status (merge.Part p fault) = part_status fault
+merge_status (merge.Row p number fault) = 2
+merge_status merge.Write = 3
+merge_status merge.Memory = 4
+
 -- a step that is not enabled is refused input
 abbrev pub step_status : StepFault → ℕ
 step_status step.NotEnabled = 2
@@ -47,6 +62,7 @@ fault_status (app.Uncertified fault) = 4
 fault_status (app.Unfit why) = 1
 fault_status app.RecordTooLong = 2
 fault_status (app.Picture why) = 2
+fault_status (app.Merge fault) = merge_status fault
 fault_status app.Write = 3
 fault_status app.Memory = 4
 

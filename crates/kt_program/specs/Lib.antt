@@ -9,6 +9,7 @@ pub mod Files
 pub mod Inputs
 pub mod KeptLives
 pub mod Made
+pub mod Merged
 pub mod Names
 pub mod Outputs
 pub mod Played

@@ -16,7 +16,7 @@ use Rattle.kt_run.specs.declared.orders.Order.TheVariants.{Default, Drawn}
 use Rattle.kt_run.specs.declared.recorded.Keep.{Keep}
 use Rattle.kt_run.specs.declared.recorded.Keep.TheVariants.{Steps}
 use Rattle.kt_spacetime.specs.declared.event.Event.{Event}
-use Rattle.kt_threads.specs.Faults.{is_live_of_cast}
+use Rattle.kt_threads.specs.Faults.{is_of_no_thread}
 use Rattle.kt_threads.specs.declared.faults.LiveFault.{LiveFault}
 use Rattle.kt_threads.specs.declared.faults.LiveFault.TheVariants as live_fault
 use Rattle.kt_program.specs.declared.fault.AppFault.{AppFault}
@@ -78,7 +78,7 @@ pub record IsSerialFault (by : By) (order : Order) (plan : Planned) (given : Lis
 pub record IsThreadsFault (by : By) (fault : LiveFault) : Type 0 where
   pub threads : by ≡ Threads
   pub found : fault ≢ live_fault.Memory
-  pub right : is_live_of_cast fault ≡ false
+  pub right : is_of_no_thread fault ≡ false
   pub objects : (p : ℕ) → fault ≢ live_fault.Object p
 
 -- what a run that is made so meets over new objects
@@ -91,6 +91,7 @@ IsFaultOverNew by order plan given app.RecordTooLong = ⊥
 IsFaultOverNew by order plan given (app.Uncertified fault) = ⊥
 IsFaultOverNew by order plan given (app.Unfit why) = ⊥
 IsFaultOverNew by order plan given (app.Picture why) = ⊥
+IsFaultOverNew by order plan given (app.Merge fault) = ⊥
 IsFaultOverNew by order plan given (app.Log fault) = ⊥
 IsFaultOverNew by order plan given (app.Cert fault) = ⊥
 

@@ -3,7 +3,7 @@ use Rattle.std.specs.Prelude.{◌≡◌, ◌≢◌, ◌⊎◌, ◌++◌, ◌≤�
 use Rattle.std.specs.Borrow.{Bor}
 use Rattle.clap.specs.Words.{Text}
 use Rattle.kt_program.specs.declared.line.Asked.{Asked}
-use Rattle.kt_program.specs.declared.line.Asked.TheVariants.{Certify, Check, Draw, Judge, Live, Play, Run}
+use Rattle.kt_program.specs.declared.line.Asked.TheVariants.{Certify, Check, Draw, Judge, Live, Merge, Play, Run}
 
 -- the name of a descriptor: `/dev/fd/` and its digits
 abbrev pub IsDescriptor : Text → Type 0
@@ -57,6 +57,7 @@ inputs_of (Check log cert) = Some log ∷ Some cert ∷ None ∷ []
 inputs_of (Judge asked) = Some asked.log ∷ asked.cert ∷ None ∷ []
 inputs_of (Certify log cert) = Some log ∷ None ∷ None ∷ []
 inputs_of (Draw asked) = Some asked.log ∷ asked.names ∷ asked.cert ∷ []
+inputs_of (Merge asked) = asked.parts.items
 
 abbrev pub outputs_of : Asked → List Name
 outputs_of (Play scenario steps log cert) = log ∷ cert ∷ None ∷ []
@@ -66,12 +67,22 @@ outputs_of (Check log cert) = None ∷ None ∷ None ∷ []
 outputs_of (Judge asked) = None ∷ None ∷ None ∷ []
 outputs_of (Certify log cert) = cert ∷ None ∷ None ∷ []
 outputs_of (Draw asked) = asked.svg ∷ None ∷ None ∷ []
+outputs_of (Merge asked) = asked.log ∷ None ∷ None ∷ []
 
 -- a name is given
 abbrev pub IsNamed : Name → Type 0
 IsNamed (Some name) = Unit {0}
 IsNamed None = ⊥
 
+-- parts are asked for
+abbrev pub IsOfParts : Asked → Type 0
+IsOfParts (Merge asked) = Unit {0}
+IsOfParts _ = ⊥
+
+-- names by which nothing is lost
+abbrev pub AreNamedApart : List Name → List Name → Type 0
+AreNamedApart inputs outputs = AreApart inputs outputs × AreReadOnce inputs
+
 -- what is asked for loses nothing by its names
 abbrev pub IsApart : Asked → Type 0
-IsApart asked = AreApart (inputs_of asked) (outputs_of asked) × AreReadOnce (inputs_of asked)
+IsApart asked = AreNamedApart (inputs_of asked) (outputs_of asked)

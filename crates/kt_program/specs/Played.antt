@@ -126,6 +126,7 @@ StopsAtFault Are plan old new (app.Uncertified fault) = ⊥
 StopsAtFault Are plan old new (app.Unfit why) = ⊥
 StopsAtFault Are plan old new app.RecordTooLong = ⊥
 StopsAtFault Are plan old new (app.Picture why) = ⊥
+StopsAtFault Are plan old new (app.Merge fault) = ⊥
 StopsAtFault Are plan old new app.Write = StopsWriting Are plan old new
 StopsAtFault Are plan old new app.Memory = IsUnwritten old new ⊎ StopsWriting Are plan old new
 StopsAtFault Are plan old new (app.Log fault) = ⊥

@@ -1,6 +1,6 @@
 -- The command line as clap reads it.
-use Rattle.std.specs.Prelude.{◌≡◌, ◌≢◌, ◌<◌, ◌^◌, ◌⊎◌, ℕ, List, Option, Some, None, option_map, codes, true, false, MatchBool}
-use Rattle.clap.specs.Words.{App, Rule, Row, Text, rule_of, app_of, new_app, new_rule, with_rule, with_subcommand, first_of, subcommand_of}
+use Rattle.std.specs.Prelude.{◌≡◌, ◌≢◌, ◌<◌, ◌≤◌, ◌^◌, ◌⊎◌, ℕ, List, Option, Some, None, option_map, codes, length, map, true, false, MatchBool}
+use Rattle.clap.specs.Words.{App, Rule, Row, Text, rule_of, app_of, new_app, new_rule, with_rule, with_subcommand, all_of, first_of, subcommand_of}
 use Rattle.std.specs.Fmt.{decimal}
 use Rattle.clap.specs.Words.{Kinds, HasKind, fault_of, kind_of}
 use Rattle.clap.specs.declared.error.Error.{Error}
@@ -8,14 +8,15 @@ use Rattle.clap.specs.declared.error.kind.ErrorKind.TheVariants.{MissingSubcomma
 use Rattle.clap.specs.declared.builder.command.Command.TheViews.{out-Command as fields_of}
 use Rattle.clap.specs.declared.builder.command.Command.{Command}
 use Rattle.clap.specs.declared.builder.arg.Arg.{Arg}
-use Rattle.clap.specs.declared.builder.action.ArgAction.TheVariants.{SetTrue}
+use Rattle.clap.specs.declared.builder.action.ArgAction.TheVariants.{Append, SetTrue}
 use Rattle.clap.specs.declared.builder.value_parser.ValueParser.TheVariants.{Unsigned}
 use Rattle.kt_program.specs.declared.line.Asked.{Asked}
-use Rattle.kt_program.specs.declared.line.Asked.TheVariants.{Certify, Check, Draw, Judge, Live, Play, Run}
+use Rattle.kt_program.specs.declared.line.Asked.TheVariants.{Certify, Check, Draw, Judge, Live, Merge, Play, Run}
 use Rattle.kt_program.specs.declared.line.By.{By}
 use Rattle.kt_program.specs.declared.line.By.TheVariants.{Serial, Threads}
 use Rattle.kt_program.specs.declared.line.Drawing.{Drawing}
 use Rattle.kt_program.specs.declared.line.Judging.{Judging}
+use Rattle.kt_program.specs.declared.line.Merging.{Merging}
 use Rattle.kt_program.specs.declared.line.Run.{Run as RunAsked}
 
 -- a word that has to be there, with a name in help
@@ -76,6 +77,14 @@ abbrev pub draw : App
 draw =
     with_hints (with_rule (with_rule (with_rule (with_rule (with_rule (log_command (codes "draw")) (optional (codes "cert"))) (optional (codes "names"))) (optional (codes "from"))) (optional (codes "to"))) (optional (codes "svg")))
 
+-- words of which one or more have to be there, with a name in help
+abbrev pub wanted_list : Text → Rule
+wanted_list id = record (wanted id) { action = Some Append }
+
+-- the command that merges parts
+abbrev pub merge : App
+merge = with_hints (with_rule (with_rule (new_app (codes "merge")) (wanted_list (codes "part"))) (optional (codes "log")))
+
 -- a command with a version
 abbrev pub with_version : App → App
 with_version app = record app { top = record app.top { has_version = true } }
@@ -86,7 +95,8 @@ switched = with_hints (with_version (new_app (codes "koo_toueg")))
 
 -- the program's command line
 abbrev pub program : App
-program = with_subcommand (with_subcommand (with_subcommand (with_subcommand (with_subcommand switched play.top) live.top) check.top) certify.top) draw.top
+program =
+    with_subcommand (with_subcommand (with_subcommand (with_subcommand (with_subcommand (with_subcommand switched play.top) live.top) check.top) certify.top) draw.top) merge.top
 
 -- an argument that clap reads as this rule
 pub record IsRule (rule : Rule) (a : Arg) : Type 0 where
@@ -161,6 +171,12 @@ pub record NamesDraw (rows : List Row) (asked : Drawing) : Type 0 where
   pub to_is : IsGivenNumber (codes "to") rows asked.span.to
   pub svg_is : first_of (codes "svg") rows ≡ option_map (λ s. s.now) asked.svg
 
+-- what the matches of `merge` name: the words that are given are the parts, at most 64
+pub record NamesMerge (rows : List Row) (asked : Merging) : Type 0 where
+  pub parts_are : option_map (map Some) (all_of (codes "part") rows) ≡ Some (map (option_map (λ s. s.now)) asked.parts.items)
+  pub few : length asked.parts.items ≤ 64
+  pub log_is : first_of (codes "log") rows ≡ option_map (λ s. s.now) asked.log
+
 -- what the matches of `live` name of a run whose steps are written: none come first, and none are drawn
 pub record NamesRecord (rows : List Row) (run : RunAsked) : Type 0 where
   pub record_is : first_of (codes "record") rows ≡ option_map (λ s. s.now) run.kept
@@ -186,6 +202,7 @@ NamesIn name rows (Check log cert) = (name ≡ codes "check") × NamesCheck rows
 NamesIn name rows (Judge asked) = (name ≡ codes "check") × NamesJudging rows asked
 NamesIn name rows (Certify log cert) = (name ≡ codes "certify") × (first_of (codes "log") rows ≡ Some log.now) × (first_of (codes "cert") rows ≡ option_map (λ s. s.now) cert)
 NamesIn name rows (Draw asked) = (name ≡ codes "draw") × NamesDraw rows asked
+NamesIn name rows (Merge asked) = (name ≡ codes "merge") × NamesMerge rows asked
 
 -- what is asked for names the subcommand and its texts
 abbrev pub NamesAsked : Option (Text × List Row) → Asked → Type 0

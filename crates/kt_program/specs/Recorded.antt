@@ -107,5 +107,6 @@ StopsRecording Are plan old new (app.Live fault) = (fault ≢ live.Memory) × Ar
 StopsRecording Are plan old new (app.Uncertified fault) = ⊥
 StopsRecording Are plan old new (app.Unfit why) = ⊥
 StopsRecording Are plan old new (app.Picture why) = ⊥
+StopsRecording Are plan old new (app.Merge fault) = ⊥
 StopsRecording Are plan old new (app.Log fault) = ⊥
 StopsRecording Are plan old new (app.Cert fault) = ⊥

@@ -1,7 +1,7 @@
 -- Exit statuses.
 use Rattle.std.specs.Prelude.{ℕ, Bool, true, false, Result, Ok, Err}
 use Rattle.kt_program.specs.declared.ending.Done.{Done}
-use Rattle.kt_program.specs.declared.ending.Done.TheVariants.{Judged, Played, Certified, Drawn, Shown}
+use Rattle.kt_program.specs.declared.ending.Done.TheVariants.{Judged, Played, Certified, Drawn, Merged, Shown}
 use Rattle.kt_program.specs.declared.fault.Failure.{Failure}
 use Rattle.kt_program.specs.declared.fault.ProgramFault.{ProgramFault}
 use Rattle.kt_program.specs.Faults.{refusal_status}
@@ -17,6 +17,7 @@ done_status (Judged passed) = answer_status passed
 done_status Played = 0
 done_status Certified = 0
 done_status Drawn = 0
+done_status Merged = 0
 done_status Shown = 0
 
 -- 0 done or yes, 1 no, 2 refused input, 3 a read or write fault, 4 want of memory or a run that can't go on

@@ -80,6 +80,7 @@ IsRefusal of_rows of_certs (app.Uncertified fault) = ⊥
 IsRefusal of_rows of_certs (app.Unfit why) = ⊥
 IsRefusal of_rows of_certs app.RecordTooLong = ⊥
 IsRefusal of_rows of_certs (app.Picture why) = ⊥
+IsRefusal of_rows of_certs (app.Merge fault) = ⊥
 
 -- a fault of a log, as the program answers it
 abbrev pub of_log : LogFault → AppFault

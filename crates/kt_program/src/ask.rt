@@ -1,16 +1,17 @@
 //! The command line, by clap.
 
-ghost use Rattle.std.specs.Prelude.{◌≡◌, ◌↔◌, ◌<◌, ◌^◌, ◌≢◌, ℕ, codes, IfOk, IfErr, IfSome, IfNone, MatchBool, Some, None, option_map, Option};
-ghost use Rattle.clap.specs.Words.{App, Rule, with_rule, with_subcommand, first_of, kind_of, new_app, rule_of, subcommand_of, subcommand_rows_of, rows_of, found_of};
+ghost use Rattle.std.specs.Prelude.{◌≡◌, ◌↔◌, ◌<◌, ◌^◌, ◌≢◌, ℕ, map, codes, IfOk, IfErr, IfSome, IfNone, MatchBool, Some, None, option_map, Option};
+ghost use Rattle.clap.specs.Words.{App, Rule, with_rule, with_subcommand, first_of, all_of, kind_of, new_app, rule_of, subcommand_of, subcommand_rows_of, rows_of, found_of};
 ghost use Rattle.std.specs.Fmt.{decimal};
 ghost use Rattle.clap.specs.declared.error.kind.ErrorKind.TheVariants.{MissingSubcommand};
-ghost use Rattle.kt_program.specs.Program.{program, certify, check, live, numeric, play, with_hints, with_outputs, optional, possible, switch, wanted, IsRule, IsDefined, IsSet, NamesAsked, NamesIn, draw, IsGivenNumber, SpellsSeed};
+ghost use Rattle.kt_program.specs.Program.{merge, program, certify, check, live, numeric, play, with_hints, with_outputs, optional, possible, switch, wanted, IsRule, IsDefined, IsSet, NamesAsked, NamesIn, draw, IsGivenNumber, SpellsSeed};
 ghost use Rattle.kt_program.specs.Asking.{IsUnasked};
 ghost use Rattle.kt_program.specs.Names.{IsApart};
 ghost use Rattle.kt_program.specs.declared.ask.AskFault.TheVariants.{Line, Memory as OutOfMemory};
 ghost use Rattle.kt_program.specs.declared.line.Asked.{Asked};
 
-use crate::line::{Asked, Drawing, Judging, Run};
+use crate::line::{Asked, Drawing, Judging, MAX_PARTS, Merging, Run};
+use crate::names::Name;
 use crate::words::Words;
 use clap::error::ErrorKind;
 use clap::{Arg, ArgAction, ArgMatches, Command, Error, value_parser};
@@ -22,7 +23,7 @@ use std::alloc::{AllocError, Global};
 const VERSION: &str = "0.1.0";
 
 const ABOUT: &str =
-    "Runs scenarios of a checkpoint and rollback-recovery manager, and certifies, judges and draws stored runs";
+    "Runs scenarios of a checkpoint and rollback-recovery manager, and merges, certifies, judges and draws stored runs";
 
 const STATUSES: &str = "Exit status:
   0  done; the answer of check is yes
@@ -133,6 +134,21 @@ const TO: &str = "The number of the last row that is drawn, else that of the las
 
 const SVG: &str = "Where the picture is written, else to standard output";
 
+const MERGE: &str = "Writes one log of the logs of single processes
+Writes one log of the logs of single processes: their rows sorted by clock, then by
+process, those of one process in their order, with numbers for names. Whether that
+log is legal is asked of check. At a fault nothing is written.";
+
+const PARTS: &str = "The log of each process, in order of their numbers
+The log of each process, in order of their numbers, up to 64: a CSV file with a
+record of six fields for each row. The first one is a clock, which never falls; the
+next four are those of the row in a log, with mQ.N for a message, the Nth that Q
+sent, and iQ.N for an instance, the Nth that Q began; the last one is the name that
+a row sent gives, else -. Each process makes its clock greater than that of all that
+it takes.";
+
+const MERGED: &str = "Where the log is written, in format 2, else to standard output";
+
 const HINTS: &str = "Tells below a fault's line what is wrong, and where";
 
 /// Why a command line was refused.
@@ -142,7 +158,7 @@ pub enum AskFault<'a> {
     Line(Error),
     /// A file that is to be written has the name of one that is read, or of another one that is written: this one.
     SameName(&'a str),
-    /// There was no memory for the definition of the command line.
+    /// There was no memory for the definition of the command line, or for the names of parts.
     Memory,
 }
 
@@ -307,6 +323,15 @@ fn draw_command<'a>(alloc: Global) -> Defined<'a>
     with_hints(alloc, command)
 }
 
+fn merge_command<'a>(alloc: Global) -> Defined<'a>
+    ensures { IfOk result (IsDefined merge) }
+{
+    let parts = wanted(alloc, "part", "PART", PARTS).action(ArgAction::Append);
+    let command = command_of(alloc, "merge", MERGE, parts);
+    let command = with_arg(command, optional(alloc, "log", "FILE", MERGED));
+    with_hints(alloc, command)
+}
+
 fn program_command<'a>(alloc: Global) -> Defined<'a>
     ensures { IfOk result (IsDefined program) }
 {
@@ -319,7 +344,8 @@ fn program_command<'a>(alloc: Global) -> Defined<'a>
     let command = with_subcommand(command, live_command(alloc));
     let command = with_subcommand(command, check_command(alloc));
     let command = with_subcommand(command, certify_command(alloc));
-    with_subcommand(command, draw_command(alloc))
+    let command = with_subcommand(command, draw_command(alloc));
+    with_subcommand(command, merge_command(alloc))
 }
 
 // The text that the matches have for an argument.
@@ -466,19 +492,56 @@ fn asked_of_draw<'a>(matches: &ArgMatches<'a>) -> Option<Asked<'a>>
     }))
 }
 
-// What the matches of the program ask for.
-fn asked_in<'a>(matches: &ArgMatches<'a>) -> Option<Asked<'a>>
-    ensures named { IfSome result (NamesAsked (subcommand_rows_of matches.now)) }
-    ensures nothing { IfNone result ((asked : Asked) → ¬ NamesAsked (subcommand_rows_of matches.now) asked) }
+// The texts that the matches have for an argument.
+fn texts_of<'a, 'b>(matches: &'b ArgMatches<'a>, id: &str) -> Option<&'b [&'a str]>
+    ensures { option_map (λ texts. map (λ s. s.now) texts.now) result ≡ all_of id.now (rows_of (found_of matches.now)) }
 {
-    let (name, inner) = matches.subcommand()?;
+    matches.get_strs(id)
+}
+
+// The parts of these names.
+fn parts_of<'a>(alloc: Global, names: &[&'a str]) -> Result<Vec<Name<'a>>, AllocError>
+    ensures { IfOk result (λ parts. parts.items ≡ map Some names.now) }
+{
+    names.iter().map(|name| Some(*name)).collect(alloc)
+}
+
+// What the matches of `merge` ask for. None where they have no part, or more than 64.
+fn asked_of_merge<'a>(
+    alloc: Global,
+    matches: &ArgMatches<'a>,
+) -> Result<Option<Asked<'a>>, AllocError>
+    ensures named { IfOk result (λ asked. IfSome asked (NamesIn (codes "merge") (rows_of (found_of matches.now)))) }
+    ensures nothing { IfOk result (λ asked. IfNone asked ((other : Asked) →
+        ¬ NamesIn (codes "merge") (rows_of (found_of matches.now)) other)) }
+{
+    let Some(names) = texts_of(matches, "part") else {
+        return Ok(None);
+    };
+    if names.len() > MAX_PARTS {
+        return Ok(None);
+    }
+    let parts = parts_of(alloc, names)?;
+    let log = text_of(matches, "log");
+    Ok(Some(Asked::Merge(Merging { parts, log })))
+}
+
+// What the matches of the program ask for.
+fn asked_in<'a>(alloc: Global, matches: &ArgMatches<'a>) -> Result<Option<Asked<'a>>, AllocError>
+    ensures named { IfOk result (λ asked. IfSome asked (NamesAsked (subcommand_rows_of matches.now))) }
+    ensures nothing { IfOk result (λ asked. IfNone asked ((other : Asked) → ¬ NamesAsked (subcommand_rows_of matches.now) other)) }
+{
+    let Some((name, inner)) = matches.subcommand() else {
+        return Ok(None);
+    };
     match name {
-        "play" => asked_of_play(inner),
-        "live" => asked_of_live(inner),
-        "check" => asked_of_check(inner),
-        "certify" => asked_of_certify(inner),
-        "draw" => asked_of_draw(inner),
-        _ => None,
+        "play" => Ok(asked_of_play(inner)),
+        "live" => Ok(asked_of_live(inner)),
+        "check" => Ok(asked_of_check(inner)),
+        "certify" => Ok(asked_of_certify(inner)),
+        "draw" => Ok(asked_of_draw(inner)),
+        "merge" => asked_of_merge(alloc, inner),
+        _ => Ok(None),
     }
 }
 
@@ -489,7 +552,7 @@ fn nothing_asked(alloc: Global) -> Result<Error, AllocError>
     let mut command = program_command(alloc)?;
     command.error(
         ErrorKind::MissingSubcommand,
-        "a command is missing, or a number is written with a sign or a leading zero",
+        "a command is missing, a number is written with a sign or a leading zero, or there are more than 64 parts",
     )
 }
 
@@ -503,9 +566,11 @@ pub fn asked<'a>(alloc: Global, words: &'a Words) -> Result<Asked<'a>, AskFault<
     ensures refused { IfErr result (IsUnasked words.entry.now) }
 {
     let matches = program_command(alloc)?.try_get_matches_from(words.list())?;
-    match asked_in(&matches) {
-        Some(asked) if asked.clash() => Err(AskFault::SameName(asked.name_twice())),
-        Some(asked) => Ok(asked),
-        None => Err(AskFault::Line(nothing_asked(alloc)?)),
+    let Some(asked) = asked_in(alloc, &matches)? else {
+        return Err(AskFault::Line(nothing_asked(alloc)?));
+    };
+    if asked.clash() {
+        return Err(AskFault::SameName(asked.name_twice()));
     }
+    Ok(asked)
 }

@@ -6,12 +6,13 @@ ghost use Rattle.kt_program.specs.Certified.{CertifiesTo, IsOfCertifying, IsText
 
 use crate::fault::{AppFailure, AppFault, Failure};
 use crate::outputs::{deliver, write_text};
-use crate::sources::{Input, ReadFiles, Role, open_input};
+use crate::sources::{ReadFiles, Role, open_input};
 use crate::stored::told_of_log;
 use crate::told::Told;
 use kt_certify::{StreamFault, certify_rows};
 use kt_chain::write_certs;
 use kt_log_text::{Record, RowReader};
+use kt_shown::Input;
 use std::alloc::Global;
 use std::io::{Read, Write};
 use std::rt::Files;
@@ -96,7 +97,7 @@ pub(crate) fn certify_files<F: Files, O: Write>(
     ensures fault { IfErr result (λ failure. IsOfCertifying failure.fault) }
     ensures output { LeavesCertified result (O.contents out.old) (O.contents out.new) }
 {
-    let mut read = ReadFiles::default();
+    let mut read = ReadFiles::none();
     let log = open_input(files, Role::Log, log, &mut read)?;
     let text = certify_log(alloc, log)?;
     deliver(files, &read, text.as_slice(), cert, out)

@@ -13,12 +13,13 @@ ghost use Rattle.kt_program.specs.Stored.{IsExact, IsRefusal, IsVerdictOf, Judge
 
 use crate::fault::{AppFailure, AppFault, Failure};
 use crate::outputs::{deliver, write_text};
-use crate::sources::{Input, ReadFiles, Role, open_input};
+use crate::sources::{ReadFiles, Role, open_input};
 use crate::stored::{log_failure, read_certificates};
 use kt_chain::Certificate;
 use kt_checker::{Verdict, check_rows};
 use kt_judge::Answer;
 use kt_log_text::RowReader;
+use kt_shown::Input;
 use std::alloc::Global;
 use std::io::{Read, Write};
 use std::rt::Files;
@@ -124,7 +125,7 @@ pub(crate) fn check_files<F: Files, O: Write>(
     // The line is that of the checker's answer to the bytes of two files.
     ensures judged { IfOk result (JudgesFiles F.File.remaining (O.contents out.old) (O.contents out.new)) }
 {
-    let mut read = ReadFiles::default();
+    let mut read = ReadFiles::none();
     let log = open_input(files, Role::Log, log, &mut read)?;
     let cert = open_input(files, Role::Certificates, cert, &mut read)?;
     let answer = Answer::Checked(judge_texts(alloc, log, cert)?);

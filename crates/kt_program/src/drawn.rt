@@ -12,12 +12,13 @@ use crate::fault::{AppFailure, AppFault, Failure};
 use crate::line::Drawing;
 use crate::outputs::deliver;
 use crate::running::scenario_in;
-use crate::sources::{Input, ReadFiles, Role, open_input};
+use crate::sources::{ReadFiles, Role, open_input};
 use crate::stored::{StoredRun, read_stored, told_of_log};
 use crate::told::Told;
 use kt_draw::{DrawFault, Span, draw_certified, draw_rows};
 use kt_log_text::RowReader;
 use kt_plan::Names;
+use kt_shown::Input;
 use std::alloc::Global;
 use std::io::{Read, Write};
 use std::rt::Files;
@@ -40,7 +41,7 @@ pub(crate) fn draw_files<F: Files, O: Write>(
     ensures fault { IfErr result (λ failure. IsOfDrawing asked.now.names failure.fault) }
     ensures output { LeavesDrawn result (O.contents out.old) (O.contents out.new) }
 {
-    let mut read = ReadFiles::default();
+    let mut read = ReadFiles::none();
     let names = names_in(files, alloc, asked.names, &mut read)?;
     let log = open_input(files, Role::Log, asked.log, &mut read)?;
     let text = drawn_with(files, alloc, log, asked, &names, &mut read)?;

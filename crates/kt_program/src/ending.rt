@@ -27,6 +27,8 @@ pub enum Done {
     Certified,
     /// It drew a stored log.
     Drawn,
+    /// It wrote the log of parts.
+    Merged,
     /// It wrote the help or the version that was asked for.
     Shown,
 }
@@ -38,7 +40,7 @@ impl Done {
     {
         match self {
             Done::Judged(passed) => u8::from(!passed),
-            Done::Played | Done::Certified | Done::Drawn | Done::Shown => 0,
+            Done::Played | Done::Certified | Done::Drawn | Done::Merged | Done::Shown => 0,
         }
     }
 }

@@ -3,9 +3,10 @@
 ghost use Rattle.std.specs.Prelude.{◌≡◌};
 ghost use Rattle.kt_program.specs.declared.fault.AppFault.TheVariants as app;
 ghost use Rattle.kt_program.specs.declared.fault.ProgramFault.TheVariants as program;
-ghost use Rattle.kt_program.specs.Faults.{fault_status, refusal_status};
+ghost use Rattle.kt_program.specs.Faults.{fault_status, merge_status, refusal_status};
 ghost use Rattle.kt_program.specs.Certified.{of_stream};
 ghost use Rattle.kt_program.specs.Drawn.{of_draw};
+ghost use Rattle.kt_program.specs.Merged.{of_merge};
 ghost use Rattle.kt_program.specs.Played.{of_cert_fault, of_live, of_run, of_writing};
 
 use crate::told::Told;
@@ -15,13 +16,15 @@ use kt_chain::CertTextFault;
 use kt_core::StepFault;
 use kt_draw::{DrawFault, PictureFault};
 use kt_log_text::LogFault;
+use kt_merge::MergeFault;
+use kt_part_text::PartFault;
 use kt_run::RunFault;
 use kt_scenario::{ScenarioFault, StepsFault};
 use kt_text::WriteFault;
 use kt_threads::LiveFault;
 use thiserror::Error;
 
-/// Why a run was not played, or a stored run not judged, certified or drawn.
+/// Why a run was not played, a stored run not judged, certified or drawn, or parts were not merged.
 #[derive(Clone, Copy, Debug, PartialEq, Eq, Hash, Error)]
 pub enum AppFault {
     /// The log's text was refused.
@@ -48,6 +51,9 @@ pub enum AppFault {
     /// A stored log has no such picture.
     #[error(transparent)]
     Picture(PictureFault),
+    /// Parts have no log.
+    #[error(transparent)]
+    Merge(MergeFault),
     /// A writer failed.
     #[error("write fault")]
     Write,
@@ -64,6 +70,7 @@ impl AppFault {
     {
         match self {
             AppFault::Log(LogFault::Read) | AppFault::Cert(CertTextFault::Read) => 3,
+            AppFault::Merge(fault) => merge_status(fault),
             AppFault::Log(LogFault::Memory) | AppFault::Cert(CertTextFault::Memory) => 4,
             AppFault::Log(_) | AppFault::Cert(_) | AppFault::Picture(_) => 2,
             AppFault::RecordTooLong | AppFault::Run(RunFault::Step(_, StepFault::NotEnabled)) => 2,
@@ -72,6 +79,17 @@ impl AppFault {
             AppFault::Write => 3,
             AppFault::Memory => 4,
         }
+    }
+}
+
+// The exit status of a fault of parts.
+fn merge_status(fault: MergeFault) -> u8
+    ensures { result ≡ merge_status fault }
+{
+    match fault {
+        MergeFault::Part(_, PartFault::Read) | MergeFault::Write => 3,
+        MergeFault::Part(_, PartFault::Memory) | MergeFault::Memory => 4,
+        MergeFault::Part(..) | MergeFault::Row(..) => 2,
     }
 }
 
@@ -124,6 +142,18 @@ impl From<StreamFault> for AppFault {
             StreamFault::Log(LogFault::Memory) => AppFault::Memory,
             StreamFault::Log(fault) => AppFault::Log(fault),
             StreamFault::Unfit(unfit) => AppFault::Unfit(unfit),
+        }
+    }
+}
+
+impl From<MergeFault> for AppFault {
+    ghost from_gives = { λ fault f. f ≡ of_merge fault };
+
+    fn from(fault: MergeFault) -> AppFault {
+        match fault {
+            MergeFault::Write | MergeFault::Memory => AppFault::Memory,
+            MergeFault::Part(_, PartFault::Memory) => AppFault::Memory,
+            _ => AppFault::Merge(fault),
         }
     }
 }

@@ -1,13 +1,13 @@
 //! What is told below the line of a fault, in words.
 
 use crate::fault::{AppFault, Failure, ProgramFault};
-use crate::forms::{certificate_form, row_form};
-use crate::told::{Attempt, Place, Told, ToldRecord};
+use crate::told::{Attempt, Told, ToldRecord};
 use kt_certify::Unfit;
 use kt_chain::CertTextFault;
 use kt_cuts::Rule;
 use kt_log_text::LogFault;
 use kt_plans::Hindrance;
+use kt_shown::{certificate_form, row_form};
 use std::fmt;
 
 // What a number of a record is to be.
@@ -43,15 +43,10 @@ impl fmt::Display for Failure {
                 let ProgramFault::App(fault) = &self.fault else {
                     return Ok(());
                 };
-                write_reason(f, fault, record, place.text.front(record.first))
+                write_reason(f, fault, record, place.text.part((0, record.first)))
             }
+            Told::Parts(unmerged) => write!(f, "{unmerged}"),
         }
-    }
-}
-
-impl fmt::Display for Place {
-    fn fmt<W: fmt::Write>(&self, f: &mut fmt::Formatter<W>) -> fmt::Result {
-        write!(f, "{}:{}: {}", self.file, self.line, self.text)
     }
 }
 

@@ -6,10 +6,10 @@ ghost use Rattle.kt_program.specs.declared.fault.ProgramFault.TheVariants as pro
 ghost use Rattle.kt_program.specs.Inputs.{AreStepsOf, IsOfReading, IsRead, IsScenarioOf, IsScenarioRefusal, IsStepsRefusal};
 
 use crate::fault::{AppFault, Failure, ProgramFault};
-use crate::sources::Input;
 use crate::told::Told;
 use kt_plan::{Plan, Step};
 use kt_scenario::{ScenarioFault, StepsFault, parse, parse_steps};
+use kt_shown::Input;
 use std::alloc::Global;
 use std::io::{self, Read};
 
@@ -135,6 +135,6 @@ fn read_failure<R>(input: &Input<R>) -> Failure
 {
     Failure {
         fault: ProgramFault::Read,
-        told: input.told(),
+        told: Told::read(input),
     }
 }

@@ -13,12 +13,12 @@ use crate::checked::answer_text;
 use crate::fault::{AppFailure, AppFault, Failure};
 use crate::line::Judging;
 use crate::outputs::deliver;
-use crate::shown::Shown;
-use crate::sources::{Input, ReadFiles, Role, open_input};
+use crate::sources::{ReadFiles, Role, open_input};
 use crate::stored::{read_log, read_stored};
 use kt_chain::Certificate;
 use kt_explain::{Lines, Told};
 use kt_judge::{Numbered, RecordLines, judge};
+use kt_shown::{Input, Shown};
 use kt_spacetime::SpaceTime;
 use std::alloc::Global;
 use std::fmt::Display;
@@ -55,7 +55,7 @@ pub(crate) fn judge_files<F: Files, O: Write>(
     // The answer is that to the bytes of the files, and what is told of it is so.
     ensures judged { IfOk result (AnswersFiles F.File.remaining asked.now (O.contents out.old) (O.contents out.new)) }
 {
-    let mut read = ReadFiles::default();
+    let mut read = ReadFiles::none();
     let stored = log_in(files, alloc, asked, &mut read)?;
     let answered = answer_to(alloc, stored, asked)?;
     deliver(files, &read, answered.text.as_slice(), None, out)?;

@@ -6,9 +6,8 @@
 //! files `running.rt`, over new objects `runs.rt` (`specs/Made`), over given ones `played.rt`; its objects
 //! `casts.rt`, its texts `inputs.rt`, that it lost no message `laws.rt`; a stored run `checked.rt`, a log alone, or
 //! with what is told of the answer, `judging.rt`; a stored log certified `certified.rt`, or drawn
-//! `drawn.rt`; faults `fault.rt`; statuses `ending.rt`; what a person is told of a fault
-//! `told.rt`, in words `hints.rt`, of a record `forms.rt`, at which line it stands `places.rt`, texts of others
-//! `shown.rt`; the whole `program.rt`.
+//! `drawn.rt`; parts merged `merged.rt`; faults `fault.rt`; statuses `ending.rt`; what a person is told of a fault
+//! `told.rt`, in words `hints.rt`; the whole `program.rt`.
 #![tactic(auto)]
 
 pub mod ask;
@@ -19,20 +18,18 @@ pub mod drawn;
 pub mod ending;
 pub mod fault;
 mod files;
-pub mod forms;
 mod hints;
 pub mod inputs;
 mod judging;
 pub mod laws;
 pub mod line;
+mod merged;
 pub mod names;
 pub mod outputs;
-mod places;
 pub mod played;
 pub mod program;
 mod running;
 mod runs;
-pub mod shown;
 mod sources;
 mod stored;
 pub mod streams;
@@ -47,7 +44,7 @@ pub use ending::{Done, end, write_fault};
 pub use fault::{AppFailure, AppFault, Failure, ProgramFault};
 pub use inputs::{read_scenario, read_steps};
 pub use laws::no_message_is_lost;
-pub use line::{Asked, By, Drawing, Judging, Run};
+pub use line::{Asked, By, Drawing, Judging, Merging, Run};
 pub use names::{clash, is_device};
 pub use outputs::Output;
 pub use played::{live_plan, play_plan};

@@ -1,6 +1,6 @@
 //! What a command line may ask for.
 
-ghost use Rattle.std.specs.Prelude.{◌≡◌, MatchBool};
+ghost use Rattle.std.specs.Prelude.{◌≡◌, ◌⊎◌, MatchBool};
 
 use crate::names::{Name, STANDARD, clash, is_read_twice};
 use kt_draw::Span;
@@ -34,7 +34,7 @@ pub struct Run<'a> {
 }
 
 /// What the words of a command line ask for, with the names of files.
-#[derive(Clone, Copy)]
+#[derive(Drop)]
 pub enum Asked<'a> {
     /// Play a scenario, perhaps with steps that come first, and write its log and its certificates where that is asked.
     Play {
@@ -65,6 +65,19 @@ pub enum Asked<'a> {
     },
     /// Draw rows of a stored log.
     Draw(Drawing<'a>),
+    /// Write the log of parts.
+    Merge(Merging<'a>),
+}
+
+/// The most parts that a log has, one for each process.
+pub const MAX_PARTS: usize = 64;
+
+/// Parts of which one log is asked for, by the names of their files, and into which file, else to standard output.
+#[derive(Drop)]
+pub struct Merging<'a> {
+    /// The parts of processes 0, 1 and so on, at most 64.
+    pub parts: Vec<Option<&'a str>>,
+    pub log: Option<&'a str>,
 }
 
 /// A stored log that is to be judged.
@@ -120,11 +133,11 @@ impl<'a> Run<'a> {
 }
 
 impl<'a> Asked<'a> {
-    ghost use Rattle.kt_program.specs.Names.{IsApart, inputs_of, outputs_of};
+    ghost use Rattle.kt_program.specs.Names.{AreNamedApart, IsApart, IsOfParts, inputs_of, outputs_of};
 
-    // The names of the files that it reads, and of those that it writes.
+    // The names of the files that it reads, but for parts, and of those that it writes.
     fn names(&self) -> ([Name<'a>; 3], [Name<'a>; 3])
-        ensures inputs { result.0 ≡ inputs_of self.now }
+        ensures inputs { IsOfParts self.now ⊎ (result.0 ≡ inputs_of self.now) }
         ensures outputs { result.1 ≡ outputs_of self.now }
     {
         match *self {
@@ -150,7 +163,16 @@ impl<'a> Asked<'a> {
                 [Some(asked.log), asked.names, asked.cert],
                 [asked.svg, None, None],
             ),
+            Asked::Merge(Merging { log, .. }) => ([None; 3], [log, None, None]),
         }
+    }
+
+    // Whether a file that is written has the name of one of these that are read or of another one that is written, or standard
+    // input is read twice.
+    fn is_twice(inputs: &[Name<'a>], outputs: &[Name<'a>]) -> bool
+        ensures { MatchBool result (¬ AreNamedApart inputs.now outputs.now) (AreNamedApart inputs.now outputs.now) }
+    {
+        clash(inputs, outputs) || is_read_twice(inputs)
     }
 
     /// Whether a file that is to be written has the name of one that is read, or of another one that is written, or standard
@@ -159,17 +181,28 @@ impl<'a> Asked<'a> {
         ensures { MatchBool result (¬ IsApart self.now) (IsApart self.now) }
     {
         let (inputs, outputs) = self.names();
-        clash(&inputs, &outputs) || is_read_twice(&inputs)
+        match self {
+            Asked::Merge(asked) => Asked::is_twice(asked.parts.as_slice(), &outputs),
+            _ => Asked::is_twice(&inputs, &outputs),
+        }
     }
 
     /// A name that is given twice, where one is.
     pub(crate) fn name_twice(&self) -> &'a str {
         let (inputs, outputs) = self.names();
-        for (place, output) in outputs.iter().enumerate() {
-            if clash(&inputs, &outputs[..=place]) {
-                return output.unwrap_or(STANDARD);
-            }
+        match self {
+            Asked::Merge(asked) => twice_among(asked.parts.as_slice(), &outputs),
+            _ => twice_among(&inputs, &outputs),
         }
-        STANDARD
     }
+}
+
+// The first output that has the name of an input or of an output before it; else that of standard input.
+fn twice_among<'a>(inputs: &[Name<'a>], outputs: &[Name<'a>]) -> &'a str {
+    for (place, output) in outputs.iter().enumerate() {
+        if clash(inputs, &outputs[..=place]) {
+            return output.unwrap_or(STANDARD);
+        }
+    }
+    STANDARD
 }

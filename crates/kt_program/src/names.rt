@@ -82,10 +82,21 @@ fn are_standard(one: Name<'_>, other: Name<'_>) -> bool
     one == Some(STANDARD) && other == Some(STANDARD)
 }
 
+// Whether a name and one of these are names of standard input.
+fn is_read_among(name: Name<'_>, names: &[Name<'_>]) -> bool
+    ensures { MatchBool result (¬ All (ReadOnce name.entry) names.now) (All (ReadOnce name.entry) names.now) }
+{
+    names.iter().any(|other| are_standard(name, *other))
+}
+
 /// Whether standard input is read twice.
-pub(crate) fn is_read_twice(inputs: &[Name<'_>; 3]) -> bool
+pub(crate) fn is_read_twice(inputs: &[Name<'_>]) -> bool
     ensures { MatchBool result (¬ AreReadOnce inputs.now) (AreReadOnce inputs.now) }
 {
-    let [first, second, third] = *inputs;
-    are_standard(first, second) || are_standard(first, third) || are_standard(second, third)
+    for (place, input) in inputs.iter().enumerate() {
+        if is_read_among(*input, &inputs[..place]) {
+            return true;
+        }
+    }
+    false
 }

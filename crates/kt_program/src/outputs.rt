@@ -12,10 +12,10 @@ ghost use Rattle.kt_program.specs.Outputs.{TextGoesTo, contents_of, files_of, ke
 use crate::fault::{AppFault, Failure, ProgramFault};
 use crate::files::{FileNumber, is_one, is_twice, number_of, number_of_metadata};
 use crate::names::{is_standard, target_of};
-use crate::shown::Shown;
 use crate::sources::ReadFiles;
 use crate::told::{Attempt, Told};
 use kt_run::Keep;
+use kt_shown::Shown;
 use kt_text::pieces::write_whole;
 use std::fs::{OpenFile, OpenOptions};
 use std::io::{Sink, Write};

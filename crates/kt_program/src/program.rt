@@ -8,7 +8,7 @@ ghost use Rattle.kt_program.specs.declared.ending.Done.TheVariants.{Shown};
 ghost use Rattle.kt_program.specs.declared.fault.AppFault.TheVariants as app;
 ghost use Rattle.kt_program.specs.declared.fault.ProgramFault.TheVariants as program;
 ghost use Rattle.kt_program.specs.Asking.{EndsFor, IsRequest, IsUnshown};
-ghost use Rattle.kt_program.specs.Ending.{CertifiedFor, DrawnFor, Ends, EndsOn, JudgedFor, LeavesOutput, PlayedFor};
+ghost use Rattle.kt_program.specs.Ending.{CertifiedFor, DrawnFor, Ends, EndsOn, JudgedFor, LeavesOutput, MergedFor, PlayedFor};
 
 use crate::ask::{AskFault, asked};
 use crate::certified::certify_files;
@@ -18,6 +18,7 @@ use crate::ending::{Done, end, end_told};
 use crate::fault::{AppFault, Failure, ProgramFault};
 use crate::judging::judge_files;
 use crate::line::{Asked, Run};
+use crate::merged::merge_files;
 use crate::running::run_files;
 use crate::streams::StandIns;
 use crate::told::Told;
@@ -90,6 +91,8 @@ pub fn carry_out<F: Files + Threads + Wait + Sync, O: Write>(
     // The picture that is drawn is that of the rows that the words ask for, of the log that a file says, and goes where they
     // ask.
     ensures drawn { IfOk result (DrawnFor words.now F.File.remaining (O.contents out.old) (O.contents out.new)) }
+    // The log that is merged is that of parts that files say, and goes where the words ask.
+    ensures merged { IfOk result (MergedFor words.now F.File.remaining (O.contents out.old) (O.contents out.new)) }
 {
     match asked(alloc, words) {
         Ok(
@@ -121,6 +124,7 @@ pub fn carry_out<F: Files + Threads + Wait + Sync, O: Write>(
             Ok(Done::Certified)
         }
         Ok(Asked::Draw(picture)) => draw_files(files, alloc, &picture, out),
+        Ok(Asked::Merge(merging)) => merge_files(files, alloc, &merging, out),
         Err(AskFault::Line(error)) => match show_text(out, &error) {
             Ok(done) => Ok(done),
             Err(fault) => Err(Failure {

@@ -11,13 +11,13 @@ use crate::inputs::{StepsRead, plan_of, steps_of};
 use crate::line::Run;
 use crate::outputs::{Outputs, Targets, outputs_of};
 use crate::runs::run_objects;
-use crate::shown::Shown;
 use crate::sources::{ReadFiles, Role, open_input};
 use crate::told::Told;
 use kt_core::StepFault;
 use kt_plan::Plan;
 use kt_plans::Hindrance;
 use kt_run::RunFault;
+use kt_shown::Shown;
 use std::alloc::Global;
 use std::io::Write;
 use std::rt::Files;
@@ -45,7 +45,7 @@ pub(crate) fn run_files<F: Files + Threads + Wait + Sync, O: Write>(
     // Steps are refused only where they are named.
     ensures steps { IfErr result (λ failure. IsOfNamedSteps run.now.steps failure.fault) }
 {
-    let mut read = ReadFiles::default();
+    let mut read = ReadFiles::none();
     let plan = scenario_in(rt, alloc, run.scenario, &mut read)?;
     let given = steps_in(rt, alloc, run.steps, &plan, &mut read)?;
     let targets = Targets {

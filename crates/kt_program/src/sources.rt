@@ -5,12 +5,15 @@ ghost use Rattle.kt_program.specs.Sources.{unread};
 
 use crate::fault::{AppFault, Failure, ProgramFault};
 use crate::files::{FileNumber, number_of};
+use crate::line::MAX_PARTS;
 use crate::names::source_of;
-use crate::shown::Shown;
 use crate::told::{Attempt, Told};
+use kt_base::ProcNo;
 use kt_chain::CertTextFault;
 use kt_log_text::LogFault;
-use std::io::Read;
+use kt_merge::MergeFault;
+use kt_part_text::PartFault;
+use kt_shown::{Input, Shown};
 use std::rt::Files;
 use std::{fs, io};
 
@@ -21,14 +24,17 @@ pub(crate) enum Role {
     Steps,
     Log,
     Certificates,
+    /// The part of a process.
+    Part(ProcNo),
 }
 
 impl Role {
     // Its place among the files that were read.
-    fn place(self) -> usize
-        ensures { result < 4 }
+    fn place(&self) -> usize
+        ensures { result < 64 }
     {
         match self {
+            Role::Part(process) => process.index(),
             Role::Scenario => 0,
             Role::Steps => 1,
             Role::Log => 2,
@@ -37,63 +43,33 @@ impl Role {
     }
 
     // The fault of such a file that is not opened.
-    fn unread(self) -> ProgramFault
-        ensures { result ≡ unread self }
+    fn unread(&self) -> ProgramFault
+        ensures { result ≡ unread self.now }
     {
         match self {
             Role::Scenario | Role::Steps => ProgramFault::Read,
             Role::Log => ProgramFault::App(AppFault::Log(LogFault::Read)),
             Role::Certificates => ProgramFault::App(AppFault::Cert(CertTextFault::Read)),
+            Role::Part(p) => {
+                ProgramFault::App(AppFault::Merge(MergeFault::Part(*p, PartFault::Read)))
+            }
         }
     }
 }
 
 /// The files that were read, by what they tell: their names, and which regular files they are, where that is told.
-#[derive(Clone, Copy, Default)]
+#[derive(Clone, Copy)]
 pub(crate) struct ReadFiles<'a> {
-    pub(crate) names: [Option<&'a str>; 4],
-    pub(crate) numbers: [Option<FileNumber>; 4],
+    pub(crate) names: [Option<&'a str>; MAX_PARTS],
+    pub(crate) numbers: [Option<FileNumber>; MAX_PARTS],
 }
 
-/// What is read, the name that was given for it, and why a read of it failed.
-#[derive(Drop)]
-pub(crate) struct Input<R> {
-    pub(crate) source: R,
-    pub(crate) name: Shown,
-    why: Option<io::Error>,
-}
-
-impl<R> Input<R> {
-    /// A reader by this name.
-    pub(crate) fn new(source: R, name: &str) -> Input<R>
-        ensures { result.source ≡ source }
-    {
-        Input {
-            source,
-            name: Shown::of(name.as_bytes()),
-            why: None,
-        }
-    }
-
-    /// What is told of a read that failed.
-    pub(crate) fn told(&self) -> Told {
-        match &self.why {
-            Some(error) => Told::attempt(Attempt::Read, self.name, error),
-            None => Told::Nothing,
-        }
-    }
-}
-
-impl<R: Read> Read for Input<R> {
-    ghost remaining = { λ input. R.remaining input.source };
-
-    fn read(&mut self, buf: &mut [u8]) -> io::Result<usize> {
-        match self.source.read(buf) {
-            Ok(count) => Ok(count),
-            Err(error) => {
-                self.why = Some(error);
-                Err(error)
-            }
+impl ReadFiles<'_> {
+    /// None was read.
+    pub(crate) fn none() -> Self {
+        ReadFiles {
+            names: [None; MAX_PARTS],
+            numbers: [None; MAX_PARTS],
         }
     }
 }

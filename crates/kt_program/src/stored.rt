@@ -11,11 +11,11 @@ ghost use Rattle.kt_program.specs.Judging.{Say};
 ghost use Rattle.kt_program.specs.Stored.{IsRefusal, SayCertificates, of_cert, of_log, records_told};
 
 use crate::fault::{AppFailure, AppFault};
-use crate::sources::Input;
 use crate::told::Told;
 use csv::{ByteRecord, Reader};
 use kt_chain::{CertTextFault, Certificate, read_certs_in};
 use kt_log_text::{LogFault, RowReader, read_rows};
+use kt_shown::Input;
 use kt_spacetime::SpaceTime;
 use kt_text::records::read_records;
 use std::alloc::Global;
@@ -87,7 +87,7 @@ pub(crate) fn log_failure<L: Read + Drop>(rows: &RowReader<Input<L>>, fault: Log
 /// What is told of a fault of a log: the record at which it was met, or why that could not be read.
 pub(crate) fn told_of_log<L: Read + Drop>(rows: &RowReader<Input<L>>, fault: &LogFault) -> Told {
     let row = match fault {
-        LogFault::Read => return rows.source().told(),
+        LogFault::Read => return Told::read(rows.source()),
         LogFault::Memory => return Told::Nothing,
         LogFault::Fields(row) | LogFault::Word(row) | LogFault::Number(row) => row.get(),
         LogFault::TooLong | LogFault::Version => 1,
@@ -126,7 +126,7 @@ fn certificates_failure<C: Read>(
     let input = records.get_ref();
     let told = match fault {
         CertTextFault::Memory => return AppFailure::from(AppFault::Memory),
-        CertTextFault::Read => input.told(),
+        CertTextFault::Read => Told::read(input),
         _ => Told::record(input.name, current, records.position(), u32::MAX),
     };
     AppFailure {

@@ -1,23 +1,14 @@
 //! What a person is told of a fault, gathered where it is met.
 
-use crate::forms::{Limit, field_at, limit_of};
-use crate::places::line_of;
-use crate::shown::Shown;
 use arrayvec::ArrayString;
 use csv::{ByteRecord, Position};
 use kt_log_text::Record;
+use kt_merging::Unmerged;
 use kt_plans::Hindrance;
+use kt_shown::{Input, Limit, Place, Shown, field_at, limit_of};
 use std::alloc::Global;
 use std::fmt::Write;
 use std::io;
-
-/// A line of a file, by its number, from 1, and what stands there: of a record its fields, joined by commas.
-#[derive(Clone, Copy)]
-pub struct Place {
-    pub(crate) file: Shown,
-    pub(crate) line: u64,
-    pub(crate) text: Shown,
-}
 
 /// What is done with a file.
 #[derive(Clone, Copy)]
@@ -54,6 +45,8 @@ pub enum Told {
     Line(Place, Option<Hindrance>),
     /// A record of a log or of certificates.
     Record(Place, ToldRecord),
+    /// Why parts have no log.
+    Parts(Unmerged),
 }
 
 impl Told {
@@ -76,6 +69,14 @@ impl Told {
             }
         }
         Told::Words(lines)
+    }
+
+    /// What is told of a read of an input that failed.
+    pub(crate) fn read<R>(input: &Input<R>) -> Told {
+        match input.why() {
+            Some(error) => Told::attempt(Attempt::Read, input.name, error),
+            None => Told::Nothing,
+        }
     }
 
     /// One file by two names.
@@ -131,17 +132,12 @@ impl Told {
 
     /// The record of a file that was read last and ends here; messages have numbers up to this one.
     pub(crate) fn record(file: Shown, fields: &ByteRecord, end: Position, last: u32) -> Told {
-        let place = Place {
-            file,
-            line: line_of(fields, end),
-            text: joined(fields),
-        };
         let record = ToldRecord {
             first: field_at(fields, 0).len(),
             fields: fields.len(),
             beyond: limit_of(fields, last),
         };
-        Told::Record(place, record)
+        Told::Record(Place::of(file, fields, end), record)
     }
 
     /// The record of a log in a file that says this row.
@@ -151,18 +147,6 @@ impl Told {
         let last = if is_named { 16_777_216 } else { 1_048_576 };
         Told::record(file, &record.fields, record.end, last)
     }
-}
-
-// The fields of a record joined by commas, as they are shown.
-fn joined(fields: &ByteRecord) -> Shown {
-    let mut text = Shown::new();
-    for (place, field) in fields.iter().enumerate() {
-        if place > 0 {
-            text.push(b",");
-        }
-        text.push(field);
-    }
-    text
 }
 
 // Whether a line has words that are no comment.

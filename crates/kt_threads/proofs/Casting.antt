@@ -4,7 +4,7 @@ use Rattle.kt_held.specs.declared.faults.CastFault.{CastFault}
 use Rattle.kt_held.specs.declared.faults.CastFault.TheVariants as cast
 use Rattle.kt_plan.specs.Limits.{Planned}
 use Rattle.kt_run.specs.Faults as run
-use Rattle.kt_threads.specs.Faults.{AnswersLive, live_of_cast, is_live_of_cast}
+use Rattle.kt_threads.specs.Faults.{AnswersLive, live_of_cast, is_of_no_thread}
 use Rattle.kt_threads.specs.declared.faults.LiveFault.{LiveFault}
 use Rattle.kt_threads.specs.declared.faults.LiveFault.TheVariants as live
 
@@ -16,12 +16,12 @@ of_run plan given (cast.Object p) h = h
 of_run plan given cast.Memory h = h
 
 -- a fault of another kind comes once the objects are found right
-pub answers_later : (plan : Planned) (given : List (List ℕ)) (fault : LiveFault) → is_live_of_cast fault ≡ false
+pub answers_later : (plan : Planned) (given : List (List ℕ)) (fault : LiveFault) → is_of_no_thread fault ≡ false
     → run.IsCast plan given → AnswersLive plan given fault
 answers_later plan given live.CastSize e h = absurd (cc e)
 answers_later plan given (live.CastKind p) e h = absurd (cc e)
 answers_later plan given (live.Object p) e h = h
-answers_later plan given (live.Journal p) e h = h
+answers_later plan given (live.Journal p) e h = absurd (cc e)
 answers_later plan given (live.Step fault) e h = h
 answers_later plan given live.Spawn e h = h
 answers_later plan given live.Differ e h = h

@@ -14,23 +14,24 @@ use Rattle.kt_threads.specs.declared.spawning.SpawnFault.TheVariants as spawning
 use Rattle.kt_threads.specs.declared.faults.LiveFault.{LiveFault}
 use Rattle.kt_threads.specs.declared.faults.LiveFault.TheVariants.{CastSize, CastKind, Object, Journal, Step, Spawn, Differ, Memory}
 
--- what is wrong with the objects that are given
-abbrev pub is_live_of_cast : LiveFault → Bool
-is_live_of_cast CastSize = true
-is_live_of_cast (CastKind p) = true
-is_live_of_cast (Object p) = false
-is_live_of_cast (Journal p) = false
-is_live_of_cast (Step fault) = false
-is_live_of_cast Spawn = false
-is_live_of_cast Differ = false
-is_live_of_cast Memory = false
+-- what no thread ends by: what is wrong with the objects that are given; and want of memory to note what a step asks, which takes
+-- none
+abbrev pub is_of_no_thread : LiveFault → Bool
+is_of_no_thread CastSize = true
+is_of_no_thread (CastKind p) = true
+is_of_no_thread (Object p) = false
+is_of_no_thread (Journal p) = true
+is_of_no_thread (Step fault) = false
+is_of_no_thread Spawn = false
+is_of_no_thread Differ = false
+is_of_no_thread Memory = false
 
--- a fault, and the objects that are given: any other fault comes once they are found right
+-- a fault, and the objects that are given: any other fault comes once they are found right; `Journal` never comes
 abbrev pub AnswersLive : Planned → List (List ℕ) → LiveFault → Type 0
 AnswersLive plan given CastSize = ¬ HasSizes plan.kinds plan.commands given
 AnswersLive plan given (CastKind p) = HasOtherKind plan given p
 AnswersLive plan given (Object p) = IsCast plan given
-AnswersLive plan given (Journal p) = IsCast plan given
+AnswersLive plan given (Journal p) = ⊥
 AnswersLive plan given (Step fault) = IsCast plan given
 AnswersLive plan given Spawn = IsCast plan given
 AnswersLive plan given Differ = IsCast plan given
@@ -61,16 +62,16 @@ abbrev pub live_stopped_at : LiveFault → Option ℕ
 live_stopped_at CastSize = None
 live_stopped_at (CastKind p) = None
 live_stopped_at (Object p) = Some p
-live_stopped_at (Journal p) = Some p
+live_stopped_at (Journal p) = None
 live_stopped_at (Step fault) = None
 live_stopped_at Spawn = None
 live_stopped_at Differ = None
 live_stopped_at Memory = None
 
--- a fault is one that threads end by, where these are the faults that ended them, by process: what is wrong with the objects
--- comes from no thread, and one that names a process has ended that process's thread
+-- a fault is one that threads end by, where these are the faults that ended them, by process: it is one that
+-- threads end by, and one that names a process has ended that process's thread
 abbrev pub IsOfThreads : List (Option LiveFault) → LiveFault → Type 0
-IsOfThreads ended fault = (is_live_of_cast fault ≡ false)
+IsOfThreads ended fault = (is_of_no_thread fault ≡ false)
     × ((p : ℕ) → live_stopped_at fault ≡ Some p → slice_index_or ended p None ≡ Some fault)
 
 -- what is answered where this fault was the first

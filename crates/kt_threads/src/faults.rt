@@ -2,7 +2,7 @@
 
 ghost use Rattle.std.specs.Prelude.{◌≡◌, false};
 ghost use Rattle.kt_threads.specs.declared.faults.LiveFault.TheVariants as live;
-ghost use Rattle.kt_threads.specs.Faults.{is_live_of_cast, live_of_act, live_of_cast, live_of_spawning, live_of_step, live_stopped_at};
+ghost use Rattle.kt_threads.specs.Faults.{is_of_no_thread, live_of_act, live_of_cast, live_of_spawning, live_of_step, live_stopped_at};
 
 use crate::spawning::SpawnFault;
 use kt_base::{Memory, ProcNo};
@@ -20,8 +20,7 @@ pub enum LiveFault {
     CastKind(ProcNo),
     /// The object of this process could not be saved at first, or could not be restored from its saved state.
     Object(ProcNo),
-    /// There was no memory to note what a step asked of the object of this process. It takes none any more, so no run ends by this;
-    /// no clause says so.
+    /// There was no memory to note what a step asked of the object of this process. That takes none, so no run ends by this.
     Journal(ProcNo),
     /// A step was refused.
     Step(StepFault),
@@ -56,11 +55,14 @@ impl LiveFault {
         }
     }
 
-    /// Whether it says what is wrong with the objects that are given.
-    pub(crate) fn is_of_cast(&self) -> bool
-        ensures { result ≡ is_live_of_cast self.now }
+    /// Whether no thread ends by it: it says what is wrong with the objects that are given, or that a step could not be noted.
+    pub(crate) fn is_of_no_thread(&self) -> bool
+        ensures { result ≡ is_of_no_thread self.now }
     {
-        matches!(self, LiveFault::CastSize | LiveFault::CastKind(_))
+        matches!(
+            self,
+            LiveFault::CastSize | LiveFault::CastKind(_) | LiveFault::Journal(_)
+        )
     }
 
     /// The process that it names, if it comes once all objects are saved at first.
@@ -68,7 +70,7 @@ impl LiveFault {
         ensures { result ≡ live_stopped_at self.now }
     {
         match *self {
-            LiveFault::Object(p) | LiveFault::Journal(p) => Some(p),
+            LiveFault::Object(p) => Some(p),
             _ => None,
         }
     }
@@ -91,7 +93,7 @@ impl From<AllocError> for LiveFault {
 }
 
 impl From<SpawnFault> for LiveFault {
-    ghost from_gives = { λ fault f. (f ≡ live_of_spawning fault) × (is_live_of_cast f ≡ false) };
+    ghost from_gives = { λ fault f. (f ≡ live_of_spawning fault) × (is_of_no_thread f ≡ false) };
 
     fn from(fault: SpawnFault) -> LiveFault {
         match fault {

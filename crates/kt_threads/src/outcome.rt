@@ -13,7 +13,7 @@ ghost use Rattle.kt_run.specs.Objects.{first_of, has_of, HoldDue, AreLeft};
 ghost use Rattle.kt_run.specs.Rejections.{MayReject, objects_held};
 ghost use Rattle.kt_run.specs.Runs.{IsRun};
 ghost use Rattle.kt_run.specs.Telling.{AreToldTheirRows};
-ghost use Rattle.kt_threads.specs.Faults.{AnswersFirst, AnswersLive, is_live_of_cast, live_stopped_at};
+ghost use Rattle.kt_threads.specs.Faults.{AnswersFirst, AnswersLive, is_of_no_thread, live_stopped_at};
 ghost use Rattle.kt_threads.specs.Histories.{AreTheirs, IsWholeHistory, IsLived};
 ghost use Rattle.kt_threads.specs.Moves.{move_of};
 ghost use Rattle.kt_threads.specs.Noted.{AreListed, AreNoted, AreToldBy};
@@ -82,7 +82,7 @@ fn workers_of<J: Naming>(
     ensures held { IfOk result (λ workers. map (λ worker. worker.held) workers.items ≡ objects.items) }
     ensures fresh { IfOk result (λ workers. All (λ worker. worker.done.errands ≡ []) workers.items) }
     ensures going { IfOk result (λ workers. All (λ worker. worker.fault ≡ None) workers.items) }
-    ensures fault { IfErr result (λ fault. is_live_of_cast fault ≡ false) }
+    ensures fault { IfErr result (λ fault. is_of_no_thread fault ≡ false) }
     ensures unnamed { IfErr result (λ fault. live_stopped_at fault ≡ None) }
 {
     let mut workers = Vec::with_capacity(alloc, objects.len())?;
@@ -136,7 +136,7 @@ fn finish<J: Naming>(
         (option_map (λ list. list.items) r.0.listed)) }
     ensures promised { IfOk result (λ r. IsPromised r.0.log.rows) }
     ensures follows { IfOk result (λ r. FollowsPlan plan.entry.now r.0.log.rows) }
-    ensures fault { IfErr result (λ fault. is_live_of_cast fault ≡ false) }
+    ensures fault { IfErr result (λ fault. is_of_no_thread fault ≡ false) }
     ensures named { IfErr result (λ fault. (p : ℕ) → live_stopped_at fault ≡ Some p →
         slice_index_or (map (λ worker. worker.fault) workers.entry.now) p None ≡ Some fault) }
 {
@@ -172,12 +172,12 @@ fn run_of<J: Naming>(minutes: Minutes<J>) -> (Lived, Recorder<J>)
 }
 
 /// The fault that is answered where this one was the first. Of the faults that name a process only one by which its thread
-/// ended is answered; and what is wrong with the objects comes from no thread.
+/// ended is answered; and some come from no thread.
 fn fault_of<J: Naming>(first: LiveFault, workers: &[Worker<J>]) -> LiveFault
     ensures fault { AnswersFirst (map (λ worker. worker.fault) workers.now) first result }
-    ensures ours { is_live_of_cast result ≡ false }
+    ensures ours { is_of_no_thread result ≡ false }
 {
-    if first.is_of_cast() {
+    if first.is_of_no_thread() {
         return LiveFault::Differ;
     }
     match first.process() {
@@ -202,7 +202,7 @@ fn ended<J: Naming>(state: &State, plan: &Plan, workers: &[Worker<J>]) -> Result
     ensures rest { OnOk result (IsWorldAtRest state.now.world) }
     ensures follows { OnOk result (FollowsPlan plan.now state.now.world.system.rows.rows) }
     ensures going { OnOk result (state.now.fault ≡ None) }
-    ensures fault { IfErr result (λ fault. is_live_of_cast fault ≡ false) }
+    ensures fault { IfErr result (λ fault. is_of_no_thread fault ≡ false) }
     ensures named { IfErr result (λ fault. (p : ℕ) → live_stopped_at fault ≡ Some p →
         slice_index_or (map (λ worker. worker.fault) workers.now) p None ≡ Some fault) }
 {
@@ -223,7 +223,7 @@ fn leave<J: Naming>(
     ensures whole { OnOk result (All (λ worker. worker.fault ≡ None) workers.items) }
     ensures done { IfOk result (λ parts. parts.0.items ≡ map (λ worker. worker.done) workers.items) }
     ensures held { IfOk result (λ parts. parts.1.items ≡ map (λ worker. worker.held) workers.items) }
-    ensures fault { IfErr result (λ fault. is_live_of_cast fault ≡ false) }
+    ensures fault { IfErr result (λ fault. is_of_no_thread fault ≡ false) }
     ensures unnamed { IfErr result (λ fault. live_stopped_at fault ≡ None) }
 {
     let mut all_done = Vec::with_capacity(alloc, workers.len())?;
@@ -264,7 +264,7 @@ fn work_out<J: Naming + Send + Sync, R: Threads + Wait + Sync>(
         AllZip (λ g h. AreLeft g.spares.items h.spares.items) objects.items r.1.items) }
     ensures promised { IfOk result (λ r. IsPromised r.0.log.rows) }
     ensures follows { IfOk result (λ r. FollowsPlan plan.now r.0.log.rows) }
-    ensures fault { IfErr result (λ fault. is_live_of_cast fault ≡ false) }
+    ensures fault { IfErr result (λ fault. is_of_no_thread fault ≡ false) }
     ensures object { (cast : List (List Content)) → HoldDue cast [] (has_of objects.items
         (λ b. content (kind_of (b.vtable, b.value)) (value_of (b.vtable, b.value)))) →
         IfErr result (λ fault. (p : ℕ) → fault ≡ LiveFault.Object p →

@@ -6,7 +6,7 @@ ghost use Rattle.kt_merge.specs.Merging.{ArePartsUnread};
 use crate::cases::{Case, next_piece};
 use crate::failing::FailingWriter;
 use crate::faults::{refused, value_of};
-use kt_merge::{MergeFault, Parts, merge_parts};
+use kt_merge::{Giver, MergeFault, Parts, merge_parts};
 use std::alloc::Global;
 use std::io;
 use std::io::{Read, Write};
@@ -93,10 +93,24 @@ pub(crate) fn show_run<R: Print + AllocGlobal>(rt: &R, case: &Case) -> io::Resul
 /// Shows the fault that is met in stored parts, and what was written before.
 pub(crate) fn show_fault<R: Print + AllocGlobal>(rt: &R, case: &Case) -> io::Result<()> {
     let mut log = Vec::new(rt.alloc());
+    let mut parts = parts_of(rt.alloc(), case.pieces)?;
     println!(rt; "{}", case.title)?;
-    match merge(rt.alloc(), case.pieces, &mut log)? {
+    match merge_parts(rt.alloc(), &mut parts, &mut log) {
         Ok(()) => io::writer(rt).write_all(log.as_slice())?,
         Err(fault) => println!(rt; "  {fault}")?,
     }
+    show_giver(rt, &mut parts)?;
     println!(rt; "  {} bytes are written", log.len())
+}
+
+// Shows the row that gives the name for which a merge stopped, if it stopped for one.
+fn show_giver<R: Print>(rt: &R, parts: &mut Parts<&[u8]>) -> io::Result<()> {
+    match parts.giver() {
+        Giver::Last(p) => {
+            let count = parts.reader(p).map_or(0, |reader| reader.count());
+            println!(rt; "  part {p} record {count} gives it")
+        }
+        Giver::Nowhere => println!(rt; "  no part gives it"),
+        Giver::Unknown => Ok(()),
+    }
 }

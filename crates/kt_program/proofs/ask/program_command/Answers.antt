@@ -11,4 +11,5 @@ returns c =
     let live = c.with_subcommand-command-2.ensures _ _ play c.live_command.ensures in
     let check = c.with_subcommand-command-3.ensures _ _ live c.check_command.ensures in
     let certify = c.with_subcommand-command-4.ensures _ _ check c.certify_command.ensures in
-    c.with_subcommand.ensures _ _ certify c.draw_command.ensures
+    let draw = c.with_subcommand-command-5.ensures _ _ certify c.draw_command.ensures in
+    c.with_subcommand.ensures _ _ draw c.merge_command.ensures

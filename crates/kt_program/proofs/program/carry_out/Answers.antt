@@ -1,11 +1,11 @@
 use Rattle.std.proofs.Common.{subst}
 use Rattle.clap.specs.Words.{subcommand_of}
 use Rattle.kt_program.specs.declared.line.Asked.{Asked}
-use Rattle.kt_program.specs.declared.line.Asked.TheVariants.{Check, Draw, Judge, Play, Run}
+use Rattle.kt_program.specs.declared.line.Asked.TheVariants.{Check, Draw, Judge, Merge, Play, Run}
 use Rattle.kt_program.specs.Made.{played_run}
 use Rattle.kt_program.specs.Names.{IsApart}
 use Rattle.kt_program.specs.Program.{NamesAsked, program as definition}
-use Rattle.kt_program.proofs.Lifts.{draw_drawn, draw_ends, run_ends, run_leaves, run_played, unjudged}
+use Rattle.kt_program.proofs.Lifts.{draw_drawn, draw_ends, few_parts, merge_ends, merge_leaves, merge_merged, run_ends, run_leaves, run_played, unjudged}
 use Rattle.kt_program.proofs.program.carry_out.Goals as goal
 
 pub returns-in-Ok-Play-clause-words : goal.returns-in-Ok-Play-clause-words
@@ -114,3 +114,30 @@ returns-in-Ok-Draw-clause-drawn g c =
     let apart = subst IsApart a.field-0-is a.ensures.apart in
     draw_drawn c.args.words.now (Draw a.picture) named apart g.F.File.Read.remaining (g.O.Write.contents c.args.out.now) (g.O.Write.contents c.draw_files.new.out) a.picture c.draw_files.result (λ d. d)
     c.draw_files.ensures.done c.draw_files.ensures.drawn
+
+pub returns-in-Ok-Merge-clause-words : goal.returns-in-Ok-Merge-clause-words
+returns-in-Ok-Merge-clause-words g c =
+    let a = c.in-Ok-Merge in
+    let named = subst (λ (x : Asked). NamesAsked (subcommand_of definition c.args.words.now) x) a.field-0-is a.ensures.named in
+    let apart = subst IsApart a.field-0-is a.ensures.apart in
+    merge_ends c.args.words.now (Merge a.merging) named apart c.merge_files.result tt c.merge_files.ensures.done c.merge_files.ensures.fault
+
+pub returns-in-Ok-Merge-clause-output : goal.returns-in-Ok-Merge-clause-output
+returns-in-Ok-Merge-clause-output g c =
+    let a = c.in-Ok-Merge in
+    let named = subst (λ (x : Asked). NamesAsked (subcommand_of definition c.args.words.now) x) a.field-0-is a.ensures.named in
+    let apart = subst IsApart a.field-0-is a.ensures.apart in
+    merge_leaves c.args.words.now (Merge a.merging) named apart (g.O.Write.contents c.args.out.now) (g.O.Write.contents c.merge_files.new.out) c.merge_files.result c.merge_files.ensures.done c.merge_files.ensures.output
+
+pub returns-in-Ok-Merge-clause-merged : goal.returns-in-Ok-Merge-clause-merged
+returns-in-Ok-Merge-clause-merged g c =
+    let a = c.in-Ok-Merge in
+    let named = subst (λ (x : Asked). NamesAsked (subcommand_of definition c.args.words.now) x) a.field-0-is a.ensures.named in
+    let apart = subst IsApart a.field-0-is a.ensures.apart in
+    merge_merged c.args.words.now (Merge a.merging) named apart g.F.File.Read.remaining (g.O.Write.contents c.args.out.now) (g.O.Write.contents c.merge_files.new.out) a.merging c.merge_files.result (λ m. m)
+    c.merge_files.ensures.done c.merge_files.ensures.merged
+
+pub merge_files-requires : goal.merge_files-requires
+merge_files-requires g c =
+    let a = c.in-Ok-Merge in
+    few_parts (subcommand_of definition c.args.words.now) a.merging (subst (λ (x : Asked). NamesAsked (subcommand_of definition c.args.words.now) x) a.field-0-is a.ensures.named)

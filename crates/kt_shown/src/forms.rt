@@ -30,7 +30,7 @@ impl fmt::Display for Limit {
 }
 
 /// What a row of a log is to be that begins with this word: P and Q are processes, K is an instance, M a message.
-pub(crate) fn row_form(word: &[u8]) -> &'static str {
+pub fn row_form(word: &[u8]) -> &'static str {
     match word {
         b"sent" => "expected: sent,P,Q,BODY: P and Q 0 to 63, BODY a whole number",
         b"received" =>
@@ -54,7 +54,7 @@ pub(crate) fn row_form(word: &[u8]) -> &'static str {
 }
 
 /// What a record of certificates is to be that begins with this word.
-pub(crate) fn certificate_form(word: &[u8]) -> &'static str {
+pub fn certificate_form(word: &[u8]) -> &'static str {
     match word {
         b"cert" =>
             "expected: cert,K,KIND,P,DECISION: K 1 to 4096, KIND checkpoint or rollback, P 0 to 63, DECISION commit or abort",
@@ -65,12 +65,12 @@ pub(crate) fn certificate_form(word: &[u8]) -> &'static str {
 }
 
 /// The field at a place of a record, empty where there is none.
-pub(crate) fn field_at(fields: &ByteRecord, place: usize) -> &[u8] {
+pub fn field_at(fields: &ByteRecord, place: usize) -> &[u8] {
     fields.get(place).unwrap_or(b"")
 }
 
 /// What a number of a row goes beyond, where messages have numbers up to this one.
-pub(crate) fn limit_of(fields: &ByteRecord, last: u32) -> Option<Limit> {
+pub fn limit_of(fields: &ByteRecord, last: u32) -> Option<Limit> {
     let (instance, other) = (field_at(fields, 2), field_at(fields, 3));
     match field_at(fields, 0) {
         b"received" | b"dropped" => {
@@ -97,4 +97,26 @@ fn cause_beyond(cause: &[u8]) -> Option<Limit> {
 // The number greater than this one that a text is.
 fn greater(text: &[u8], last: u32) -> Option<u32> {
     number_of(text).filter(|number| *number > last)
+}
+
+/// What a record of a part is to be that has this word: T is a clock, P and Q are processes, B a body, and N counts what Q sent
+/// or began.
+pub fn part_form(word: &[u8]) -> &'static str {
+    match word {
+        b"sent" => "expected: T,sent,P,Q,B,mP.N: P that of the part, N one more than before",
+        b"received" => "expected: T,received,P,Q,mQ.N,-: P that of the part",
+        b"dropped" => "expected: T,dropped,P,Q,mQ.N,-: P that of the part",
+        b"began" =>
+            "expected: T,began,P,iP.N,KIND,-: KIND checkpoint or rollback, N one more than before",
+        b"took" => "expected: T,took,P,iQ.N,-,-: P that of the part",
+        b"ready" => "expected: T,ready,P,iQ.N,-,-: P that of the part",
+        b"unwilling" => "expected: T,unwilling,P,iQ.N,CAUSE,-: CAUSE down, nosave or busy-iQ.N",
+        b"decided" => "expected: T,decided,P,iP.N,DECISION,-: DECISION commit or abort",
+        b"closed" => "expected: T,closed,P,iQ.N,-,-: P that of the part",
+        b"failed" => "expected: T,failed,P,-,-,-: P that of the part",
+        b"refused" =>
+            "expected: T,refused,P,COMMAND,CAUSE,-: COMMAND send, checkpoint, rollback or fail, CAUSE down, nosave or busy-iQ.N",
+        _ =>
+            "expected second: sent, received, dropped, began, took, ready, unwilling, decided, closed, failed or refused",
+    }
 }

@@ -1,5 +1,7 @@
 //! Texts of others, as they are shown to a person.
 
+ghost use Rattle.std.specs.Prelude.{◌≡◌, ◌≤◌, ◌+◌, ◌↔◌, IsTrue, length, min};
+
 use std::fmt;
 
 // How many bytes of a text are shown at most.
@@ -14,7 +16,9 @@ pub struct Shown {
 
 impl Shown {
     /// An empty text.
-    pub(crate) fn new() -> Shown {
+    pub fn new() -> Shown
+        ensures { result.length ≡ 0 }
+    {
         Shown {
             bytes: [0; MOST_SHOWN],
             length: 0,
@@ -22,24 +26,30 @@ impl Shown {
     }
 
     /// The front of this text.
-    pub(crate) fn of(text: &[u8]) -> Shown {
+    pub fn of(text: &[u8]) -> Shown
+        ensures { result.length ≡ min 200 (length text.now) }
+    {
         let mut shown = Shown::new();
         shown.push(text);
         shown
     }
 
     /// Whether there is nothing to show.
-    pub(crate) fn is_empty(&self) -> bool {
+    pub fn is_empty(&self) -> bool
+        ensures { IsTrue result ↔ self.now.length ≡ 0 }
+    {
         self.length == 0
     }
 
-    /// So many bytes of its front; none where fewer are kept.
-    pub(crate) fn front(&self, length: usize) -> &[u8] {
-        self.bytes.get(..length).unwrap_or(b"")
+    /// Its bytes from one place up to another; none where fewer are kept.
+    pub fn part(&self, (start, end): (usize, usize)) -> &[u8] {
+        self.bytes.get(start..end).unwrap_or(b"")
     }
 
     /// Adds a text at the end, as far as there is room.
-    pub(crate) fn push(&mut self, text: &[u8]) {
+    pub fn push(&mut self, text: &[u8])
+        ensures { self.old.length ≤ 200 → self.new.length ≡ min 200 (self.old.length + length text.now) }
+    {
         for byte in text {
             if self.length >= MOST_SHOWN {
                 return;

@@ -1,0 +1,2 @@
+pub use Rattle.kt_merge.specs.Merging
+pub mod Merged

@@ -1,0 +1,53 @@
+-- What the program makes of parts that are to be merged.
+use Rattle.std.specs.Prelude.{◌≡◌, ◌≢◌, ◌⊎◌, ℕ, List, length, Some, Result, Ok, Err}
+use Rattle.std.specs.List.{slice_get}
+use Rattle.std.specs.Io.KnownBytes.{Appends}
+use Rattle.kt_part_text.specs.declared.fault.PartFault.TheVariants as part
+use Rattle.kt_part_text.specs.Reading.{PartRead, part_unread}
+use Rattle.kt_merge.specs.declared.fault.MergeFault.{MergeFault}
+use Rattle.kt_merge.specs.declared.fault.MergeFault.TheVariants as merge
+use Rattle.kt_merging.specs.Merged.{IsMergedText}
+use Rattle.kt_program.specs.declared.ending.Done.{Done}
+use Rattle.kt_program.specs.declared.fault.AppFault.{AppFault}
+use Rattle.kt_program.specs.declared.fault.AppFault.TheVariants as app
+use Rattle.kt_program.specs.declared.fault.Failure.{Failure}
+use Rattle.kt_program.specs.declared.fault.ProgramFault.{ProgramFault}
+use Rattle.kt_program.specs.declared.fault.ProgramFault.TheVariants as program
+use Rattle.kt_program.specs.declared.line.Merging.{Merging}
+use Rattle.kt_program.specs.Outputs.{TextGoesTo}
+use Rattle.kt_program.specs.Stored.{BytesTold}
+
+-- a fault of parts, as the program answers it
+abbrev pub of_merge : MergeFault → AppFault
+of_merge merge.Write = app.Memory
+of_merge merge.Memory = app.Memory
+of_merge (merge.Part p part.Memory) = app.Memory
+of_merge fault = app.Merge fault
+
+-- each part is what a file says
+abbrev pub AreReadFrom : {F : Type 0} → (F → BytesTold) → List PartRead → Type 0
+AreReadFrom {F} told parts = (p : ℕ) (part : PartRead) → slice_get parts p ≡ Some part → (file : F) × (part ≡ part_unread p (told file))
+
+-- the log of parts that files say, as many as are named, goes where it is asked for
+abbrev pub MergesTo : {F : Type 0} → (F → BytesTold) → Merging → BytesTold → BytesTold → Type 0
+MergesTo told asked old new =
+    (parts : List PartRead) × AreReadFrom told parts × (length parts ≡ length asked.parts.items)
+    × (text : List ℕ) × IsMergedText parts text × TextGoesTo asked.log text old new
+
+-- standard output has the log of some parts, or nothing new where it goes into a file
+abbrev pub LeavesLog : BytesTold → BytesTold → Type 0
+LeavesLog old new = (new ≡ old) ⊎ ((parts : List PartRead) × (text : List ℕ) × IsMergedText parts text × Appends old new text)
+
+-- the same; at a fault nothing new, unless the writer failed
+abbrev pub LeavesMerge : Result Done Failure → BytesTold → BytesTold → Type 0
+LeavesMerge (Ok what) old new = LeavesLog old new
+LeavesMerge (Err failure) old new = failure.fault ≢ program.App app.Write → new ≡ old
+
+-- a fault of merging: none of the words, nor of a scenario or steps
+abbrev pub IsOfMerging : ProgramFault → Type 0
+IsOfMerging program.SameFile = Unit {0}
+IsOfMerging (program.App fault) = Unit {0}
+IsOfMerging program.Line = ⊥
+IsOfMerging (program.Scenario fault) = ⊥
+IsOfMerging (program.Steps fault) = ⊥
+IsOfMerging program.Read = ⊥
