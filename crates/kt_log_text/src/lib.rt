@@ -13,4 +13,4 @@ mod writing;
 pub use fault::LogFault;
 pub use laws::{faults_are_real, one_spelling};
 pub use reading::{Record, RowReader, read_csv, read_rows};
-pub use writing::write_csv;
+pub use writing::{push_fields, write_csv};

@@ -53,6 +53,15 @@ fn push_row(text: &mut Vec<u8>, line: &mut Line, row: Event) -> Result<(), Memor
     line.push_to(text)
 }
 
+/// Gathers the fields of a row, joined by commas, as a text of format 2 spells them, without the end of its line.
+pub fn push_fields(text: &mut Vec<u8>, row: Event) -> Result<(), Memory>
+    ensures { OnOk result (text.new.items ≡ text.old.items ++ joined (spelling row)) }
+{
+    let mut line = Line::new();
+    put_fields(&mut line, row);
+    line.push_to(text)
+}
+
 // Puts the fields of a row before the end of its line.
 #[inline(always)]
 fn put_fields(line: &mut Line, row: Event)
