@@ -1,6 +1,6 @@
 -- What an act leads to is what it makes of a holding.
-use Rattle.std.proofs.Common.{◌≡◌, ◌<◌, ℕ, ℤ, ◌+◌, ◌-◌, Bool, true, false, Option, Some, None, List, [], ◌∷◌, length, take, get_or, refl, sym, ap, subst, ◌∙◌, arith}
-use Rattle.std.specs.Prelude.{Result, Ok, Err, OnErr, option_map, unwrap_or, is_some, ◌&&◌}
+use Rattle.std.proofs.Common.{◌≡◌, ℕ, ℤ, ◌+◌, ◌-◌, Bool, true, false, Option, Some, None, List, [], ◌∷◌, length, take, get_or, refl, sym, ap, subst, ◌∙◌, arith}
+use Rattle.std.specs.Prelude.{option_map, unwrap_or, is_some, ◌&&◌}
 use Rattle.kt_object.specs.SavedStates.{SavedStates}
 use Rattle.kt_object.specs.Bytes.{IsSavedState}
 use Rattle.kt_object.proofs.SavedOnce.{kind_once, value_once}
@@ -92,12 +92,11 @@ one_done acts a b h v w z d e f is one same_object same_states held =
     (subst (λ (z : Option Content). Holds (does h a) z f) (sym same_object)
     (subst (λ (f : SavedStates). Holds (does h a) w f) (sym same_states) (acted a h v d w e one held)))
 
--- neither of them, where an error leaves all as it was
-pub none_done : {T E : Type 0} (r : Result T E) (acts : List Act) (v w : Option Content) (d e : SavedStates) → OnErr r (w ≡ v) → OnErr r (e ≡ d)
-    → OnErr r ((done : ℕ) × (done < 2) × ((h : Holding) → Holds h v d → Holds (does_all h (take done acts)) w e))
-none_done (Ok value) acts v w d e object states = tt
-none_done (Err fault) acts v w d e object states =
-    (0, omega arith, λ h held. subst (λ (z : Option Content). Holds h z e) (sym object) (subst (λ (s : SavedStates). Holds h v s) (sym states) held))
+-- neither of them
+pub none_done : (acts : List Act) (h : Holding) (v w : Option Content) (d e : SavedStates) → w ≡ v → e ≡ d → Holds h v d
+    → Holds (does_all h (take 0 acts)) w e
+none_done acts h v w d e object states held =
+    subst (λ (w : Option Content). Holds h w e) (sym object) (subst (λ (e : SavedStates). Holds h v e) (sym states) held)
 
 pub is_some-map : {A B : Type 0} (f : A → B) (o : Option A) → is_some (option_map f o) ≡ is_some o
 is_some-map f None = refl
@@ -124,7 +123,7 @@ leads_tentative Restore v w d e l = ap (λ (s : SavedStates). is_some s.tentativ
 leads_tentative Drop v w d e l = ap (λ (s : SavedStates). is_some s.tentative) l.1
 
 -- what was saved is used up by what is done first
-used_up : (saved : Bool) (a : Act) → (a ≡ Nothing → ⊥) → is_saved_after saved a ≡ false
+pub used_up : (saved : Bool) (a : Act) → (a ≡ Nothing → ⊥) → is_saved_after saved a ≡ false
 used_up saved Nothing n = absurd (n refl)
 used_up saved (Apply from body) n = refl
 used_up saved Keep n = refl

@@ -1,6 +1,6 @@
 -- Whose first object may be saved or refuse, and which of the objects that are held may reject a saved state.
-use Rattle.std.proofs.Common.{◌≡◌, ◌⊎◌, ◌<◌, ℕ, zero, suc, List, [], ◌∷◌, ◌++◌, ◌+◌, length, map, refl, sym, ap, subst, ◌∙◌, arith, inl, inr, take, set, append_assoc, length-append, below_more, Option, Some, None, slice_index_or}
-use Rattle.std.specs.Prelude.{Bool, false, is_some, remove, slice_get, option_map}
+use Rattle.std.proofs.Common.{◌≡◌, ◌⊎◌, ◌<◌, ℕ, zero, suc, List, [], ◌∷◌, ◌++◌, length, map, refl, sym, ap, subst, ◌∙◌, arith, inl, inr, take, set, append_assoc, length-append, below_more, Option, Some, None, slice_index_or}
+use Rattle.std.specs.Prelude.{false, is_some, remove, slice_get, option_map}
 use Rattle.std.specs.List.{Any}
 use Rattle.std.proofs.lemmas.Option.{slice_get-map}
 use Rattle.kt_object.specs.SavedStates.{SavedStates}

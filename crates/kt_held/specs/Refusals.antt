@@ -1,9 +1,26 @@
--- Which objects a save or a restore is refused by.
-use Rattle.std.specs.Prelude.{◌≡◌, ◌<◌, ◌∷◌, ℕ, List, Option, Some, None, take, slice_get}
+-- Which objects a save or a restore is refused by, and which act is not done.
+use Rattle.std.specs.Prelude.{◌≡◌, ◌<◌, ◌∷◌, ℕ, true, false, List, Option, Some, None, fold, take, slice_get}
 use Rattle.std.specs.List.{Any}
 use Rattle.kt_object.specs.Bytes.{IsSavedState}
+use Rattle.kt_held.specs.Fits.{Outline, fits, fits_all, outline_after}
 use Rattle.kt_held.specs.Holdings.{Holding, does_all}
+use Rattle.kt_held.specs.declared.faults.ActFault.{ActFault}
+use Rattle.kt_held.specs.declared.faults.ActFault.TheVariants.{Unfit, Form, Memory}
 use Rattle.kt_plan.specs.declared.steps.Act.{Act}
+use Rattle.kt_plan.specs.declared.steps.Act.TheVariants.{Restore}
+
+-- why an act is not done: it does not fit, or it is a restore
+abbrev pub IsActFault : Outline → Act → ActFault → Type 0
+IsActFault o act Unfit = fits o act ≡ false
+IsActFault o act Form = act ≡ Restore
+IsActFault o act Memory = act ≡ Restore
+
+-- of acts in order, those before this place can be done, and the one that stands there is not, for this fault
+pub record StopsAt (o : Outline) (acts : List Act) (fault : ActFault) (done : ℕ) : Type 0 where
+  pub act : Act
+  pub there : slice_get acts done ≡ Some act
+  pub before : fits_all o (take done acts) ≡ true
+  pub why : IsActFault (fold outline_after o (take done acts)) act fault
 
 -- the first of the objects of a process is so
 pub record IsFirstObject {A : Type 0} (P : A → Type 0) (cast : List (List A)) (p : ℕ) : Type 0 where

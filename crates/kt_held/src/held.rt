@@ -7,7 +7,7 @@ ghost use Rattle.kt_object.specs.Bytes.{IsSavedState};
 ghost use Rattle.kt_object.specs.Value.{after, offered};
 ghost use Rattle.kt_held.specs.Holdings.{Content, content, Holding, first_holding, does, does_all, Holds};
 ghost use Rattle.kt_held.specs.Fits.{Outline, outline, ActLeads, fits, fits_all, spares_of, spares_of_all};
-ghost use Rattle.kt_held.specs.Refusals.{held_objects, IsRejected};
+ghost use Rattle.kt_held.specs.Refusals.{held_objects, IsRejected, StopsAt};
 
 use crate::faults::ActFault;
 use kt_base::ProcNo;
@@ -295,7 +295,10 @@ impl Held {
             → Any (λ b. may_reject b bytes) (held_objects self.old.present self.old.spares.items) }
 
         // a refusal
-        ensures err { OnErr result ((done : ℕ) × (done < 2) × ((h : Holding)
+        ensures err { IfErr result (λ fault. (done : ℕ)
+            × StopsAt (outline (is_some self.old.present) (is_some self.old.depot.tentative)
+            (is_some saved) (length self.old.spares.items)) acts fault done
+            × ((h : Holding)
             → Holds h (option_map (λ b. content (kind_of b) (value_of b)) self.old.present) self.old.depot
             → Holds (does_all h (take done acts)) (option_map (λ b. content (kind_of b) (value_of b)) self.new.present) self.new.depot)) }
     {
@@ -347,7 +350,10 @@ impl Held {
             → Any (λ b. may_reject b bytes) (held_objects self.old.present self.old.spares.items) }
 
         // a refusal
-        ensures err { OnErr result ((done : ℕ) × (done < 2) × ((h : Holding)
+        ensures err { IfErr result (λ fault. (done : ℕ)
+            × StopsAt (outline (is_some self.old.present) (is_some self.old.depot.tentative)
+            (is_some saved) (length self.old.spares.items)) acts fault done
+            × ((h : Holding)
             → Holds h (option_map (λ b. content (kind_of b) (value_of b)) self.old.present) self.old.depot
             → Holds (does_all h (take done acts)) (option_map (λ b. content (kind_of b) (value_of b)) self.new.present) self.new.depot)) }
     {

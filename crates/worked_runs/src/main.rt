@@ -53,7 +53,7 @@ use sources::show_sources;
 use std::io;
 use std::os::fd::AsRawFd;
 use std::process::ExitCode;
-use stepping::show_stepped;
+use stepping::{show_recorded, show_stepped};
 use system_words::show_lines;
 
 // Shows the runs of each list, and runs at their limits.
@@ -85,6 +85,12 @@ fn show_callers<R: Host>(rt: &R) -> io::Result<()> {
     show_judged(rt, "log.csv", "cert.csv")?;
     show_judged(rt, "too_few.csv", "alone.csv")?;
     show_stepped(rt, "stepped")?;
+    show_recorded(
+        rt,
+        "a-busy-process-refuses.scenario",
+        "a-busy-process-refuses.steps",
+        "a-busy-process-refuses.log.csv",
+    )?;
     show_runs(rt, "counted")
 }
 

@@ -1,4 +1,4 @@
-//! A world stepped by a loop of one's own.
+//! A world stepped by a loop of one's own, and a state that records the steps of a stored run.
 
 ghost use Rattle.std.specs.Prelude.{◌≡◌, ◌≢◌, ◌↔◌, true, IfOk, IfErr, IsTrue};
 ghost use Rattle.kt_core.specs.Worlds.{IsWorldAtRest};
@@ -10,9 +10,11 @@ use anyhow::{Result, ensure};
 use kt_base::ProcNo;
 use kt_certify::{CertFault, certify};
 use kt_core::{StepFault, World};
-use kt_plan::{Give, Look};
-use kt_scenario::parse;
-use kt_spacetime::SpaceTime;
+use kt_log_text::read_csv;
+use kt_plan::{Give, Look, Plan, Step};
+use kt_scenario::{parse, parse_steps};
+use kt_spacetime::{Event, SpaceTime};
+use kt_threads::State;
 use std::alloc::Global;
 use std::{fs, io};
 
@@ -96,4 +98,71 @@ pub(crate) fn show_stepped<R: Host>(rt: &R, scenario: &str) -> io::Result<()> {
         Ok(log) => show_log(rt, &log),
         Err(_) => Err(io::Error::from(io::ErrorKind::Other)),
     }
+}
+
+/// How many rows the recorded steps told, and how many of these are the next row of the stored log in their turn.
+#[derive(Clone, Copy)]
+struct Rows {
+    told: usize,
+    stored: usize,
+}
+
+// Records a step, and compares the rows that it tells with those of a stored log.
+fn record(state: &mut State, step: &Step, log: &[Event], rows: &mut Rows) -> Result<(), StepFault> {
+    match &state.make(*step, give_for(Look::NeedsSave)) {
+        Ok(made) => {
+            for (number, event) in made.told.rows.iter().flatten() {
+                let is_stored = log.get(rows.told) == Some(event);
+                rows.told = rows.told.saturating_add(1);
+                if is_stored && number.get() as usize == rows.told {
+                    rows.stored = rows.stored.saturating_add(1);
+                }
+            }
+            Ok(())
+        }
+        Err(fault) => Err(*fault),
+    }
+}
+
+// Records steps in order.
+fn record_all(state: &mut State, steps: &[Step], log: &[Event]) -> Result<Rows, StepFault> {
+    let mut rows = Rows { told: 0, stored: 0 };
+    for step in steps {
+        record(state, step, log, &mut rows)?;
+    }
+    Ok(rows)
+}
+
+// Shows what the steps of a plan tell, beside a stored log, and the fault of one more step of the first process.
+fn show_steps<R: Print + AllocGlobal>(
+    rt: &R,
+    plan: Plan,
+    steps: &[Step],
+    log: &SpaceTime,
+) -> io::Result<()> {
+    let mut state = value_of(State::new(rt.alloc(), plan))?;
+    let rows = value_of(record_all(&mut state, steps, log.rows()))?;
+    let first = Step::Do(ProcNo::nth(0));
+    let fault = state.make(first, give_for(Look::Plain)).err();
+    println!(rt;
+        "{} rows told, {} as stored, one more step: {fault:?}",
+        rows.told, rows.stored
+    )
+}
+
+/// Shows what a state tells that records the stored steps of a run.
+pub(crate) fn show_recorded<R: Host>(
+    rt: &R,
+    scenario: &str,
+    steps: &str,
+    log: &str,
+) -> io::Result<()> {
+    print!(rt; "{steps}: ")?;
+    let text = fs::read(rt, scenario)?;
+    let plan = value_of(parse(rt.alloc(), text.as_slice()))?;
+    let text = fs::read(rt, steps)?;
+    let steps = value_of(parse_steps(rt.alloc(), text.as_slice(), &plan))?;
+    let text = fs::read(rt, log)?;
+    let log = value_of(read_csv(rt.alloc(), text.as_slice()))?;
+    show_steps(rt, plan, steps.as_slice(), &log)
 }

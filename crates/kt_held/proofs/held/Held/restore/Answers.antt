@@ -1,4 +1,4 @@
-use Rattle.std.proofs.Common.{rules, ◌≡◌, ℕ, ℤ, Bool, false, List, Option, ap, set, subst, sym, ◌∙◌}
+use Rattle.std.proofs.Common.{rules, ◌≡◌, ℕ, ℤ, false, List, Option, ap, set, subst, sym, ◌∙◌}
 use Rattle.std.specs.Prelude.{Result, Ok, Err, OnErr, is_some}
 use Rattle.std.proofs.Math.Seq.{map-set_same}
 use Rattle.kt_held.specs.Holdings.{content}
