@@ -5,7 +5,7 @@
  * no file, and calls nobody back. Threads may call it at the same time, each with variables and buffers of its own.
  *
  * Lengths and sizes are in bytes. A pointer is never null, also where its length is 0: give the address of anything, as "".
- * What a call writes overlaps nothing else that it is given. A kt_answer, a kt_fault and a size_t lie at addresses that fit
+ * What a call writes overlaps nothing else that it is given. A kt_answer, a kt_fault, a kt_text and a size_t lie at addresses that fit
  * their types. Memory comes from malloc, realloc and free of the program, so no call may come from a signal handler.
  *
  * docs/EMBEDDING.md has callers in C, Rust and Python.
@@ -69,18 +69,32 @@ enum kt_what {
     KT_WHAT_BAD_LOG = 9,   /* no certificates: the row breaks the rule */
     KT_WHAT_NO_CHAIN = 10, /* no certificates: the row commits the instance, and no message links the process with an earlier member */
     KT_WHAT_NO_ROWS = 11,  /* the log does not have the rows that are asked for */
-    KT_WHAT_PICTURE = 12   /* more than 4,096 rows are asked for */
+    KT_WHAT_PICTURE = 12,  /* more than 4,096 rows are asked for */
+    KT_WHAT_CLOCK = 13,    /* the clock is less than that of the record before */
+    KT_WHAT_PROCESS = 14,  /* the record is of another process */
+    KT_WHAT_NAME = 15,     /* the name that it gives is not the next one of its process */
+    KT_WHAT_NOT_SENT = 16, /* it names a message that no row before it sent */
+    KT_WHAT_NOT_BEGUN = 17, /* it names an instance that no row before it began */
+    KT_WHAT_ROWS = 18,     /* it would be a row behind the last one of a log */
+    KT_WHAT_INSTANCES = 19, /* it would begin an instance behind the last one of a log */
+    KT_WHAT_PARTS = 20     /* more than 64 parts are given */
 };
 
 /* A fault. A number is 0 where nothing is named: where there is no fault all are. */
 typedef struct kt_fault {
-    uint32_t text;    /* in which text: 1 the log, 2 the certificates */
+    uint32_t text;    /* in which text: 1 the log, 2 the certificates; of kt_merge the part of process 0, of process 1, and so on */
     uint32_t what;    /* of enum kt_what */
-    uint32_t place;   /* the row of a log, or the record of certificates, from 1 */
+    uint32_t place;   /* the row of a log, or the record of certificates or of a part, from 1 */
     uint32_t rule;    /* of KT_WHAT_BAD_LOG, 1 to 9 */
     uint32_t inst;    /* of KT_WHAT_NO_CHAIN, 1 to 4,096 */
     uint32_t process; /* of KT_WHAT_NO_CHAIN, 0 to 63 */
 } kt_fault;
+
+/* A text that a call reads. */
+typedef struct kt_text {
+    const uint8_t *bytes;
+    size_t len;
+} kt_text;
 
 #if defined(__cplusplus) && __cplusplus >= 201103L
 static_assert(sizeof(kt_answer) == 20 && sizeof(kt_fault) == 24, "as the library has them");
@@ -112,6 +126,10 @@ uint32_t kt_explain(const uint8_t *log, size_t log_len, const uint8_t *certifica
  * kt_certify, but for KT_NO; a fault is as for kt_check. */
 uint32_t kt_draw(const uint8_t *log, size_t log_len, const uint8_t *certificates, size_t certificates_len, uint32_t from,
                  uint32_t to, uint8_t *out, size_t out_size, size_t *len, kt_fault *fault);
+
+/* Makes one log of the logs of processes 0, 1 and so on, count of them and at most 64, as `koo_toueg merge PART..` writes it. KT_YES:
+ * out begins with the log. The rest is as for kt_certify, but for KT_NO; *fault says what is first wrong in the order of the log. */
+uint32_t kt_merge(const kt_text *parts, size_t count, uint8_t *out, size_t out_size, size_t *len, kt_fault *fault);
 
 /* The version of the library's calls. It rises where a call, a struct or a number changes its meaning. */
 uint32_t kt_version(void);

@@ -1,3 +1,4 @@
 pub mod Buffers
 pub mod Numbers
 pub mod Stored
+pub mod Merged

@@ -1,5 +1,5 @@
 -- What calls tell in numbers.
-use Rattle.std.specs.Prelude.{◌≡◌, ℕ, if◌then◌else◌, Bool, Option, Some, None, List, [], ◌∷◌}
+use Rattle.std.specs.Prelude.{◌≡◌, ℕ, ◌+◌, if◌then◌else◌, Bool, Option, Some, None, List, [], ◌∷◌}
 use Rattle.kt_certify.specs.declared.fault.Unfit.{Unfit}
 use Rattle.kt_certify.specs.declared.fault.Unfit.TheVariants as unfit
 use Rattle.kt_chain.specs.declared.fault.CertTextFault.{CertTextFault}
@@ -15,6 +15,10 @@ use Rattle.kt_draw.specs.declared.fault.PictureFault.TheVariants as picture
 use Rattle.kt_judge.specs.Answers.{passes}
 use Rattle.kt_judge.specs.declared.answer.Answer.{Answer}
 use Rattle.kt_judge.specs.declared.answer.Answer.TheVariants.{Checked, Unlinked, Open}
+use Rattle.kt_merge.specs.declared.fault.MergeFault.{MergeFault}
+use Rattle.kt_merge.specs.declared.fault.MergeFault.TheVariants as merge
+use Rattle.kt_merge.specs.declared.fault.RowFault.TheVariants as row
+use Rattle.kt_part_text.specs.declared.fault.PartFault.TheVariants as part
 use Rattle.kt_log_text.specs.declared.fault.LogFault.{LogFault}
 use Rattle.kt_log_text.specs.declared.fault.LogFault.TheVariants as log
 use Rattle.koo_toueg_c.specs.declared.answer.KtAnswer.{KtAnswer}
@@ -106,6 +110,28 @@ fault_numbers (Picture picture.NoRows) = text_fault 1 11 0
 fault_numbers (Picture picture.TooLong) = text_fault 1 12 0
 fault_numbers Memory = text_fault 0 8 0
 
+-- a fault of parts: of which one, by its process, what is wrong, and in which record
+abbrev pub merge_numbers : MergeFault → KtFault
+merge_numbers merge.Write = text_fault 0 8 0
+merge_numbers merge.Memory = text_fault 0 8 0
+merge_numbers (merge.Part p part.Memory) = text_fault 0 8 0
+merge_numbers (merge.Part p part.Read) = text_fault (p + 1) 1 0
+merge_numbers (merge.Part p part.TooLong) = text_fault (p + 1) 2 0
+merge_numbers (merge.Part p (part.Fields n)) = text_fault (p + 1) 4 n
+merge_numbers (merge.Part p (part.Word n)) = text_fault (p + 1) 5 n
+merge_numbers (merge.Part p (part.Number n)) = text_fault (p + 1) 6 n
+merge_numbers (merge.Part p (part.Clock n)) = text_fault (p + 1) 13 n
+merge_numbers (merge.Part p (part.Process n)) = text_fault (p + 1) 14 n
+merge_numbers (merge.Row p n row.Name) = text_fault (p + 1) 15 n
+merge_numbers (merge.Row p n row.NotSent) = text_fault (p + 1) 16 n
+merge_numbers (merge.Row p n row.NotBegun) = text_fault (p + 1) 17 n
+merge_numbers (merge.Row p n row.TooManyRows) = text_fault (p + 1) 18 n
+merge_numbers (merge.Row p n row.TooManyInstances) = text_fault (p + 1) 19 n
+
+-- there is a part behind the 64th one
+abbrev pub too_many_parts : KtFault
+too_many_parts = text_fault 65 20 0
+
 -- why a log has no certificates: the row that breaks a rule, or that commits an instance with a member without a chain
 abbrev pub unfit_numbers : Unfit → KtFault
 unfit_numbers (unfit.BadLog row rule) = record { text = 1; what = 9; place = row; rule = number_of rule; inst = 0; process = 0 }
@@ -121,6 +147,14 @@ fault_status (Certificates cert.Memory) = 4
 fault_status (Certificates _) = 2
 fault_status (Picture _) = 2
 fault_status Memory = 4
+
+abbrev pub merge_status : MergeFault → ℕ
+merge_status merge.Write = 4
+merge_status merge.Memory = 4
+merge_status (merge.Part p part.Memory) = 4
+merge_status (merge.Part p part.Read) = 3
+merge_status (merge.Part p fault) = 2
+merge_status (merge.Row p n fault) = 2
 
 -- a fault of a log, of certificates or of a picture; want of memory is no fault of a text
 abbrev pub of_log : LogFault → Fault

@@ -1,12 +1,15 @@
 //! Faults in numbers.
 
-ghost use Rattle.std.specs.Prelude.{◌≡◌, ◌≤◌};
-ghost use Rattle.koo_toueg_c.specs.Numbers.{cert_numbers, fault_numbers, fault_status, log_numbers, no_fault, of_cert, of_draw, of_log, text_fault, unfit_numbers};
+ghost use Rattle.std.specs.Prelude.{◌≡◌, ◌≤◌, ◌+◌, ℕ};
+ghost use Rattle.kt_merge.specs.declared.fault.MergeFault.TheVariants as merge;
+ghost use Rattle.koo_toueg_c.specs.Numbers.{cert_numbers, fault_numbers, fault_status, log_numbers, merge_numbers, merge_status, no_fault, of_cert, of_draw, of_log, text_fault, too_many_parts, unfit_numbers};
 
 use kt_certify::Unfit;
 use kt_chain::CertTextFault;
 use kt_draw::{DrawFault, PictureFault};
 use kt_log_text::LogFault;
+use kt_merge::{MergeFault, RowFault};
+use kt_part_text::PartFault;
 
 /// Why a call gives no answer, or no text, in numbers. A number is 0 where nothing is named.
 #[repr(C)]
@@ -16,7 +19,9 @@ pub struct KtFault {
     pub text: u32,
     /// 1 the text could not be read, 2 it is too long, 3 it is of another version; of a row or a record 4 its fields, 5 a word,
     /// 6 a number, 7 its place; 8 there was no memory; 9 `BadLog`, 10 `NoChain`; 11 there are no such rows, 12 there are too many
-    /// of them for a picture; 0 no fault.
+    /// of them for a picture; of a record of a part 13 its clock, 14 its process, 15 the name that it gives, 16 the message and 17
+    /// the instance that it names, 18 it is behind the last row of a log, 19 it begins an instance behind the last one; 20 there are
+    /// more than 64 parts; 0 no fault.
     pub what: u32,
     /// The row of a log, or the record of certificates, from 1.
     pub place: u32,
@@ -135,6 +140,63 @@ impl KtFault {
             CertTextFault::Number(record) => in_text(2, 6, record),
             CertTextFault::Place(record) => in_text(2, 7, record),
             CertTextFault::Memory => in_text(0, 8, 0),
+        }
+    }
+
+    /// Why parts have no log, in numbers.
+    pub(crate) fn of_merge(why: &MergeFault) -> KtFault
+        ensures { result ≡ merge_numbers why.now }
+    {
+        match why {
+            MergeFault::Write | MergeFault::Memory => in_text(0, 8, 0),
+            MergeFault::Part(p, fault) => KtFault::of_part(u32::from(p.get()) + 1, *fault),
+            MergeFault::Row(p, record, fault) => {
+                let what = match fault {
+                    RowFault::Name => 15,
+                    RowFault::NotSent => 16,
+                    RowFault::NotBegun => 17,
+                    RowFault::TooManyRows => 18,
+                    RowFault::TooManyInstances => 19,
+                };
+                in_text(u32::from(p.get()) + 1, what, *record)
+            }
+        }
+    }
+
+    // The fault of a part, which is this text, in numbers.
+    fn of_part(text: u32, fault: PartFault) -> KtFault
+        ensures { (p : ℕ) → text ≡ p + 1 → result ≡ merge_numbers (merge.Part p fault) }
+    {
+        match fault {
+            PartFault::Read => in_text(text, 1, 0),
+            PartFault::TooLong => in_text(text, 2, 0),
+            PartFault::Fields(record) => in_text(text, 4, record),
+            PartFault::Word(record) => in_text(text, 5, record),
+            PartFault::Number(record) => in_text(text, 6, record),
+            PartFault::Clock(record) => in_text(text, 13, record),
+            PartFault::Process(record) => in_text(text, 14, record),
+            PartFault::Memory => in_text(0, 8, 0),
+        }
+    }
+
+    /// There are more than 64 parts.
+    pub(crate) fn of_many_parts() -> KtFault
+        ensures { result ≡ too_many_parts }
+    {
+        in_text(65, 20, 0)
+    }
+
+    /// The status of parts that have no log.
+    pub(crate) fn status_of_merge(why: &MergeFault) -> u32
+        ensures exact { result ≡ merge_status why.now }
+        ensures refused { 2 ≤ result }
+        ensures few { result ≤ 4 }
+    {
+        match why {
+            MergeFault::Write | MergeFault::Memory => 4,
+            MergeFault::Part(_, PartFault::Memory) => 4,
+            MergeFault::Part(_, PartFault::Read) => 3,
+            MergeFault::Part(..) | MergeFault::Row(..) => 2,
         }
     }
 

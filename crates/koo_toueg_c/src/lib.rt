@@ -4,8 +4,8 @@
 //! back, and leaves nothing to be given back. `include/koo_toueg.h` declares the calls for C.
 //!
 //! **What to change where:** answers in numbers `answer.rt`, faults `fault.rt`, both as `specs/Numbers`; answers `judging.rt`,
-//! texts `texts.rt`, how stored texts are read `reading.rt`, all three as `specs/Stored`; buffers `buffers.rt`, as
-//! `specs/Buffers`; the version and sizes `about.rt`.
+//! texts `texts.rt`, how stored texts are read `reading.rt`, all three as `specs/Stored`; one log of many `merging.rt`, as
+//! `specs/Merged`; buffers `buffers.rt`, as `specs/Buffers`; the version and sizes `about.rt`.
 #![tactic(auto)]
 
 mod about;
@@ -13,6 +13,7 @@ mod answer;
 mod buffers;
 mod fault;
 mod judging;
+mod merging;
 mod reading;
 #[cfg(test)]
 mod tests;

@@ -4,6 +4,7 @@ use crate::about::{kt_sizes, kt_version};
 use crate::answer::KtAnswer;
 use crate::fault::KtFault;
 use crate::judging::{kt_check, kt_judge};
+use crate::merging::kt_merge;
 use crate::texts::{kt_certify, kt_draw, kt_explain};
 use std::rt::HostRuntime;
 
@@ -92,6 +93,24 @@ fn draws(rt: HostRuntime) {
         &mut fault,
     );
     assert!(rt; none == 2 && len == 0 && fault.what == 11);
+}
+
+#[test]
+fn merges(rt: HostRuntime) {
+    let (mut fault, mut len, mut out) = (KtFault::none(), 0, [7; 100]);
+    let parts: [&[u8]; 2] = [b"1,sent,0,1,5,m0.1\n", b"2,received,1,0,m0.1,-\n"];
+    let done = kt_merge(rt.alloc(), &parts, &mut out, &mut len, &mut fault);
+    assert!(rt; done == 0 && fault.what == 0 && out[len] == 7);
+    assert!(rt; &out[..len] == b"kt,2,-,-\nsent,0,1,5\nreceived,1,0,1\n");
+    let short = kt_merge(rt.alloc(), &parts, &mut out[..9], &mut len, &mut fault);
+    assert!(rt; short == 5 && len == 35);
+    let early: [&[u8]; 2] = [b"3,sent,0,1,5,m0.1\n", parts[1]];
+    let refused = kt_merge(rt.alloc(), &early, &mut out, &mut len, &mut fault);
+    assert!(rt; refused == 2 && len == 0);
+    assert!(rt; fault.text == 2 && fault.what == 16 && fault.place == 1);
+    let many: [&[u8]; 65] = [b""; 65];
+    let refused = kt_merge(rt.alloc(), &many, &mut out, &mut len, &mut fault);
+    assert!(rt; refused == 2 && len == 0 && fault.text == 65 && fault.what == 20);
 }
 
 #[test]
