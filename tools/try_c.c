@@ -3,7 +3,8 @@
  *
  * usage: try_c CALLS THREADS
  *
- * A call in the file is a line `NAME LOG CERTIFICATES FROM TO`, with the lengths of two texts, and then the two texts. For each
+ * A call in the file is a line `NAME LOG CERTIFICATES FROM TO`, with the lengths of two texts, and then the two texts; of merge the
+ * parts, one behind the other, and their lengths. For each
  * the program prints a line `STATUS OUT ERR` with two lengths, and then what `koo_toueg` writes to its standard output and to its
  * standard error. It ends with 1 where a call leaves a field of an earlier one, writes beyond a text or where nothing fits, or
  * answers otherwise in another thread. Each text and each buffer is a block of its own, just so long, for a tool that watches
@@ -79,14 +80,17 @@ static void say_answer(text *to, const kt_answer *a) {
 }
 
 /* The line of a fault. */
-static void say_fault(text *to, const kt_fault *f) {
-    static const char *const what[] = {"", "read fault", "too long", "log version", "fields", "word", "number", "place", "memory"};
+static void say_fault(text *to, const kt_fault *f, int is_merge) {
+    static const char *const what[] = {"", "read fault", "too long", "log version", "fields", "word", "number", "place", "memory",
+                                       "BadLog", "NoChain", "no such rows", "picture too long", "clock", "process", "name", "not sent",
+                                       "not begun", "too many rows", "too many instances", "too many parts"};
     say(to, "koo_toueg: ");
     if (f->what == KT_WHAT_BAD_LOG) say(to, "no row %u BadLog %u\n", f->place, f->rule);
     else if (f->what == KT_WHAT_NO_CHAIN) say(to, "no instance %u row %u process %u NoChain\n", f->inst, f->place, f->process);
     else if (f->what == KT_WHAT_NO_ROWS) say(to, "no such rows\n");
     else if (f->what == KT_WHAT_PICTURE) say(to, "picture too long\n");
     else if (f->what == KT_WHAT_TOO_LONG) say(to, "%s too long\n", f->text == 1 ? "log" : "certificate");
+    else if (is_merge) say(to, f->place ? "part %u record %u: %s\n" : "part %u%.0u %s\n", f->text - 1, f->place, what[f->what]);
     else if (!f->place) say(to, "%s\n", what[f->what]);
     else say(to, "%s %u: %s\n", f->text == 1 ? "log row" : "certificate record", f->place, what[f->what]);
 }
@@ -107,14 +111,34 @@ static uint32_t answer(const call *c, text *out, text *err) {
                                                : kt_judge(c->log, c->log_len, found, fault);
     if (status > KT_NO ? !is_blank(found, sizeof *found) : !is_blank(fault, sizeof *fault)) stop("a field of an earlier call");
     if (status == KT_YES && !is_blank(found, sizeof *found)) stop("a yes that names something");
-    if (status > KT_NO) say_fault(err, fault);
+    if (status > KT_NO) say_fault(err, fault, 0);
     else say_answer(out, found);
     free(found);
     free(fault);
     return status;
 }
 
+/* Merges the parts of a call, each in a block of its own. */
+static uint32_t merge(const call *c, uint8_t *out, size_t size, size_t *len, kt_fault *fault) {
+    kt_text parts[65];
+    size_t count = 0, at = 0, place = 0;
+    char *lengths = block(c->certificates_len + 1);
+    memcpy(lengths, c->certificates, c->certificates_len);
+    lengths[c->certificates_len] = 0;
+    for (int read; count < 65 && sscanf(lengths + place, "%zu%n", &parts[count].len, &read) == 1; place += (size_t)read, count++) {
+        uint8_t *part = block(parts[count].len);
+        memcpy(part, c->log + at, parts[count].len);
+        parts[count].bytes = part;
+        at += parts[count].len;
+    }
+    uint32_t status = kt_merge(parts, count, out, size, len, fault);
+    while (count) free((void *)parts[--count].bytes);
+    free(lengths);
+    return status;
+}
+
 static uint32_t make(const call *c, uint8_t *out, size_t size, size_t *len, kt_fault *fault) {
+    if (!strcmp(c->name, "merge")) return merge(c, out, size, len, fault);
     if (!strcmp(c->name, "certify")) return kt_certify(c->log, c->log_len, out, size, len, fault);
     if (!strcmp(c->name, "explain"))
         return kt_explain(c->log, c->log_len, c->certificates, c->certificates_len, out, size, len, fault);
@@ -134,7 +158,7 @@ static uint32_t make_text(const call *c, text *out, text *err) {
     free(none);
     if (status != KT_SHORT) {
         if (*len) stop("the length of no text");
-        if (status != KT_YES) say_fault(err, fault);
+        if (status != KT_YES) say_fault(err, fault, !strcmp(c->name, "merge"));
         else if (!is_blank(fault, sizeof *fault)) stop("a fault beside an empty text");
     } else {
         size_t needed = *len;

@@ -1,2 +1,3 @@
 mod Refusals
 mod Exactly
+pub mod PartReaders

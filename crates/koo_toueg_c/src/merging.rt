@@ -1,6 +1,6 @@
 //! One log of many processes' stored logs.
 
-ghost use Rattle.std.specs.Prelude.{◌≡◌, ◌≢◌, ◌≤◌, ◌<◌, ◌×◌, ℕ, List, IfOk, IfErr, length, map};
+ghost use Rattle.std.specs.Prelude.{◌≡◌, ◌≢◌, ◌≤◌, ◌<◌, ℕ, List, IfOk, IfErr, length, map};
 ghost use Rattle.kt_merge.specs.Merging.{ArePartsUnread};
 ghost use Rattle.kt_merge.specs.declared.fault.MergeFault.{MergeFault as MergeFaults};
 ghost use Rattle.koo_toueg_c.specs.Buffers.{IsGiven, IsTooLong};
