@@ -1,7 +1,7 @@
 -- A log that is drawn while its rows are read.
-use Rattle.std.proofs.Common.{◌≡◌, ◌∙◌, ◌<◌, ◌≤◌, ◌+◌, ◌-◌, ◌⊎◌, ℕ, nat_lt, if◌then◌else◌, Bool, true, false, Option, Some, None, List, [], ◌∷◌, ◌++◌, length, take, drop, refl, sym, ap, subst, append_assoc, arith, inl, inr}
+use Rattle.std.proofs.Common.{◌≡◌, ◌∙◌, ◌<◌, ◌≤◌, ◌+◌, ◌-◌, ◌⊎◌, ℕ, zero, suc, nat_lt, if◌then◌else◌, Bool, true, false, Option, Some, None, List, [], ◌∷◌, ◌++◌, length, take, drop, refl, sym, ap, subst, append_assoc, arith, inl, inr}
 use Rattle.std.proofs.lemmas.Bool.{ltb-true, ltb-false}
-use Rattle.std.proofs.lemmas.List.{append-nil, drop-append-le, drop_all, length_push, length-take-le, take-append-drop, take-append-le, take-take, take_all}
+use Rattle.std.proofs.lemmas.List.{append-nil, drop-append-le, drop_all, length_push, length-take, length-take-le, take-append-drop, take-append-le, take-take, take_all}
 use Rattle.std.proofs.lemmas.Option.{slice_get_within}
 use Rattle.std.proofs.Math.Seq.{take-append_seam}
 use Rattle.kt_spacetime.specs.declared.event.Event.{Event}
@@ -9,21 +9,21 @@ use Rattle.kt_cuts.specs.declared.rules.Rule.{Rule}
 use Rattle.kt_cuts.specs.Past.{Past, start, after}
 use Rattle.kt_cuts.specs.Legal.{IsLegal, IsLegalAfter, broken_rule, first_broken, first_broken_after, or_later}
 use Rattle.kt_cuts.proofs.Items.{get_left, get_seam}
+use Rattle.kt_chain.specs.declared.certificate.Certificate.{Certificate}
 use Rattle.kt_walk.specs.WalkOf.{WalkOf}
 use Rattle.kt_walk.specs.WalkParts.{WalkParts}
 use Rattle.kt_picture.specs.declared.breach.Breach.{Breach}
 use Rattle.kt_picture.specs.declared.diagram.Diagram.{Diagram}
 use Rattle.kt_picture.specs.declared.diagram.Sheet.{Sheet}
-use Rattle.kt_picture.specs.DiagramOf.{DiagramOf, SheetOf}
+use Rattle.kt_picture.specs.DiagramOf.{DiagramOf, HasRowsFor, SheetOf}
 use Rattle.kt_draw.specs.declared.followed.Followed.{Followed}
 use Rattle.kt_draw.specs.declared.reading.Reading.{Reading}
 use Rattle.kt_draw.specs.declared.span.Span.{Span}
-use Rattle.kt_picture.specs.Breach.{caption_of}
 use Rattle.kt_picture.specs.Picture.{picture_of}
 use Rattle.kt_draw.specs.declared.fault.PictureFault.{PictureFault}
-use Rattle.kt_draw.specs.Drawn.{HasRows, IsNoPicture, IsNoWindow, IsPicture, IsReadTo, IsShort, breach_drawn, first_row, last_row, most_columns, rows_drawn, rows_seen}
-use Rattle.kt_draw.specs.Followed.{FollowedOf, ReadingOf, ShowsWindow, last_wanted}
-use Rattle.kt_draw.proofs.Fronts.{broken_number, broken_within, last_seen, not_pictured, one_column, pictured, reads_front, reads_whole, told_drawn}
+use Rattle.kt_draw.specs.Drawn.{HasRows, IsNoPicture, IsNoWindow, IsPictureTo, IsReadTo, IsShort, breach_drawn, first_row, last_row, most_columns, rows_drawn, rows_seen}
+use Rattle.kt_draw.specs.Followed.{AreRowsRead, FollowedOf, ReadingOf, ShowsWindow, last_wanted}
+use Rattle.kt_draw.proofs.Fronts.{broken_number, broken_within, last_seen, not_pictured, one_column, pictured, reads_front, reads_whole}
 
 -- while rows come before the window its diagram shows none
 early_diagram : (o : Option Sheet) (d : Diagram) (w : WalkParts) (before last : ℕ) (rows : List Event) → before ≤ last → length rows < before → ShowsWindow o d w before last rows → DiagramOf d w rows []
@@ -249,10 +249,10 @@ pub begun : (r : Reading) (span : Span) (rows : List Event) (kept count seen : �
 begun r span rows kept count seen h kept_is seen_is there = omega (arith, h.before, kept_is, seen_is, one_column r.breach, there.positive, there.some, last_seen seen span.to)
 
 -- the picture of a window is that of the rows that are asked for
-pub reading_pictured : (names : List (List ℕ)) (span : Span) (r : Reading) (rows : List Event) (kept count seen last : ℕ) (text : List ℕ) (h : ReadingOf r span rows) → kept ≡ length h.kept → count ≡ r.count → seen ≡ rows_seen kept r.breach
-    → HasRows count seen span → IsShort seen span → last ≡ last_row seen span.to
-    → text ≡ picture_of names (take r.followed.last h.kept) r.followed.before (breach_drawn kept last r.breach) [] None (caption_of (kept + 1) r.breach) → IsPicture names span rows text
-reading_pictured names span r rows kept count seen last text h kept_is count_is seen_is there short last_is text_is =
+pub reading_pictured : (names : List (List ℕ)) (span : Span) (r : Reading) (rows : List Event) (kept count seen last : ℕ) (certificates : List Certificate) (orphan : Option ℕ) (line text : List ℕ) (h : ReadingOf r span rows) → kept ≡ length h.kept → count ≡ r.count
+    → seen ≡ rows_seen kept r.breach → HasRows count seen span → IsShort seen span → last ≡ last_row seen span.to
+    → text ≡ picture_of names (take r.followed.last h.kept) r.followed.before (breach_drawn kept last r.breach) certificates orphan line → IsPictureTo names span rows (length h.kept) r.breach certificates orphan line text
+reading_pictured names span r rows kept count seen last certificates orphan line text h kept_is count_is seen_is there short last_is text_is =
     let read : IsReadTo rows kept r.breach = subst (λ (n : ℕ). IsReadTo rows n r.breach) (sym kept_is) h.read in
     let front : take kept rows ≡ h.kept = ap (λ (n : ℕ). take n rows) kept_is ∙ h.front in
     let before = first_row span.from - 1 in
@@ -263,9 +263,23 @@ reading_pictured names span r rows kept count seen last text h kept_is count_is 
     ap (λ (n : ℕ). take n h.kept) h.last
     ∙ drawn_rows kept seen before span.to rows h.kept front (sym kept_is) more some few
     ∙ ap (λ (n : ℕ). take (rows_drawn kept n) rows) (sym last_is) in
-    told_drawn names span rows kept r.breach [] None None (caption_of (kept + 1) r.breach) text read refl
-    (pictured names span rows kept count seen r.breach read (count_is ∙ h.count) seen_is [] None (caption_of (kept + 1) r.breach) (first_row span.from) last text refl last_is there short
-    (text_is ∙ (λ j. picture_of names (shown j) (h.before j) (breach_drawn kept last r.breach) [] None (caption_of (kept + 1) r.breach))))
+    subst (λ (n : ℕ). IsPictureTo names span rows n r.breach certificates orphan line text) kept_is
+    (pictured names span rows kept count seen r.breach read (count_is ∙ h.count) seen_is certificates orphan line (first_row span.from) last text refl last_is there short
+    (text_is ∙ (λ j. picture_of names (shown j) (h.before j) (breach_drawn kept last r.breach) certificates orphan line)))
+
+-- the first rows of a list, taken by their count
+front_again : (n : ℕ) (rows : List Event) → take (length (take n rows)) rows ≡ take n rows
+front_again zero rows = refl
+front_again (suc n) [] = refl
+front_again (suc n) (row ∷ rows) = ap (λ (l : List Event). row ∷ l) (front_again n rows)
+
+-- the rows that were read begin with those up to a window's end
+pub rows_for : (rows read kept : List Event) (last : ℕ) (certificates : List Certificate) → take (length kept) read ≡ kept → AreRowsRead rows read certificates → HasRowsFor rows (take last kept) certificates
+rows_for rows read kept last certificates front (inr none) = inr none
+rows_for rows read kept last certificates front (inl same) =
+    let count = length (take last kept) in
+    let few : count ≤ length kept = omega (arith, length-take last kept) in
+    inl (ap (take count) same ∙ sym (take-take count (length kept) read few) ∙ ap (take count) front ∙ front_again last kept)
 
 -- where there is no such window, there is no such picture
 pub reading_undrawn : (span : Span) (r : Reading) (rows : List Event) (kept count seen : ℕ) (why : PictureFault) (h : ReadingOf r span rows) → kept ≡ length h.kept → count ≡ r.count → seen ≡ rows_seen kept r.breach → IsNoWindow count seen span why

@@ -1,23 +1,19 @@
 -- Where reading a log as rows stops.
 use Rattle.std.proofs.Common.{◌≡◌, ◌∙◌, ◌<◌, ◌≤◌, ◌+◌, ℕ, zero, suc, nat_lt, if◌then◌else◌, Bool, true, false, Option, Some, None, List, [], ◌∷◌, length, take, refl, sym, ap, subst, arith}
-use Rattle.std.specs.Prelude.{slice_get, Result, Ok, Err, IfOk, IfErr}
+use Rattle.std.specs.Prelude.{slice_get, Result, Ok, Err, IfOk}
 use Rattle.std.proofs.lemmas.Bool.{ltb-true, ltb-false}
-use Rattle.std.proofs.lemmas.List.{take_all, take-take, length-take-le}
+use Rattle.std.proofs.lemmas.List.{take_all}
 use Rattle.kt_spacetime.specs.declared.event.Event.{Event}
 use Rattle.kt_cuts.specs.declared.rules.Rule.{Rule}
 use Rattle.kt_cuts.specs.Past.{Past, start, after}
 use Rattle.kt_cuts.specs.Legal.{IsLegal, IsLegalAfter, broken_rule, first_broken, first_broken_after, or_later}
-use Rattle.kt_cuts.proofs.LegalLogs.{legal_take}
 use Rattle.kt_cuts.proofs.SortedFacts.{some_same}
 use Rattle.kt_chain.specs.declared.certificate.Certificate.{Certificate}
 use Rattle.kt_picture.specs.declared.breach.Breach.{Breach}
 use Rattle.kt_picture.specs.Breach.{breach_columns}
-use Rattle.kt_log_text.specs.declared.fault.LogFault.TheVariants as log
-use Rattle.kt_draw.specs.declared.fault.DrawFault.{DrawFault}
-use Rattle.kt_draw.specs.declared.fault.DrawFault.TheVariants as draw
 use Rattle.kt_draw.specs.declared.span.Span.{Span}
 use Rattle.kt_draw.specs.declared.fault.PictureFault.{PictureFault}
-use Rattle.kt_draw.specs.Drawn.{HasRows, IsDrawn, IsNoPicture, IsNoWindow, IsPictureTo, IsReadTo, IsShort, IsUndrawnLog, drawn_text, first_row, last_row, line_below, rows_drawn, rows_seen}
+use Rattle.kt_draw.specs.Drawn.{HasRows, IsDrawn, IsNoPicture, IsNoWindow, IsPictureTo, IsReadTo, IsShort, drawn_text, first_row, last_row, line_below, rows_seen}
 
 -- the rows before the first one that breaks a rule break none
 front_after : (s : Past) (log : List Event) (k : ℕ) (rule : Rule) → first_broken_after s log ≡ Some (s.rows + (k + 1), rule) → IsLegalAfter s (take k log)
@@ -80,30 +76,6 @@ pub one_column : (b : Option Breach) → breach_columns b ≤ 1
 one_column None = omega arith
 one_column (Some b) = omega arith
 
--- how many rows are drawn as rows: some of those that are legal
-pub drawn_few : (kept last : ℕ) → (rows_drawn kept last ≤ kept) × (rows_drawn kept last ≤ last)
-drawn_few kept last = at_test (nat_lt kept last) refl
-  where
-    at_test : (t : Bool) → nat_lt kept last ≡ t → ((if t then kept else last) ≤ kept) × ((if t then kept else last) ≤ last)
-    at_test true e = (omega arith, omega (arith, ltb-true kept last e))
-    at_test false e = (omega (arith, ltb-false kept last e), omega arith)
-
--- all of the window but the row that breaks a rule
-pub drawn_all : (kept last : ℕ) (b : Option Breach) → last ≤ rows_seen kept b → last ≤ rows_drawn kept last + 1
-drawn_all kept last b seen = at_test (nat_lt kept last) refl
-  where
-    at_test : (t : Bool) → nat_lt kept last ≡ t → last ≤ (if t then kept else last) + 1
-    at_test true e = omega (arith, seen, one_column b)
-    at_test false e = omega arith
-
--- what is drawn as rows is legal
-pub drawn_legal : (log : List Event) (kept last : ℕ) (b : Option Breach) → IsReadTo log kept b → IsLegal (take (rows_drawn kept last) log)
-drawn_legal log kept last b h = subst IsLegal (take-take (rows_drawn kept last) kept log ((drawn_few kept last).0)) (legal_take (rows_drawn kept last) (take kept log) h.legal)
-
--- so many rows are drawn
-pub drawn_length : (log : List Event) (kept last : ℕ) (b : Option Breach) → IsReadTo log kept b → length (take (rows_drawn kept last) log) ≡ rows_drawn kept last
-drawn_length log kept last b h = length-take-le (rows_drawn kept last) log (omega (arith, (drawn_few kept last).0, h.within))
-
 -- the last row that is drawn is one that is read
 pub last_seen : (seen : ℕ) (to : Option ℕ) → last_row seen to ≤ seen
 last_seen seen None = omega arith
@@ -142,11 +114,7 @@ told_drawn names span log kept b certificates orphan line below text read e h = 
   drawn = subst (λ (l : List ℕ). IsPictureTo names span log kept b certificates orphan l text) e h;
 }
 
--- what follows from an answer, and from a fault
+-- what follows from an answer
 pub ok_weaker : {X E : Type 0} (r : Result X E) (P Q : X → Type 0) → IfOk r P → ((x : X) → P x → Q x) → IfOk r Q
 ok_weaker (Ok x) P Q h f = f x h
 ok_weaker (Err e) P Q h f = tt
-
-pub memory_undrawn : {X : Type 0} (span : Span) (read : List Event) (r : Result X DrawFault) → IfErr r (λ e. e ≡ draw.Log log.Memory) → IfErr r (IsUndrawnLog span read)
-memory_undrawn span read (Ok x) h = tt
-memory_undrawn span read (Err e) h = subst (IsUndrawnLog span read) (sym h) refl

@@ -1,5 +1,5 @@
 -- Which rows of a stored log are drawn, and what the picture is.
-use Rattle.std.specs.Prelude.{◌≡◌, ◌≤◌, ◌<◌, ◌+◌, ◌-◌, ℕ, if◌then◌else◌, nat_lt, List, [], ◌++◌, take, length, slice_get, Option, Some, None, IfSome, codes}
+use Rattle.std.specs.Prelude.{◌≡◌, ◌≤◌, ◌<◌, ◌+◌, ◌-◌, ℕ, if◌then◌else◌, nat_lt, Bool, true, false, List, [], ◌++◌, take, length, slice_get, Option, Some, None, IfSome, codes}
 use Rattle.kt_spacetime.specs.declared.event.Event.{Event}
 use Rattle.kt_cuts.specs.Legal.{IsLegal, first_broken}
 use Rattle.kt_log_text.specs.declared.fault.LogFault.TheVariants as log
@@ -7,6 +7,8 @@ use Rattle.kt_log_text.specs.Reading.{rows_unread}
 use Rattle.kt_log_text.specs.Texts.{IsFirstLogFault}
 use Rattle.kt_chain.specs.declared.certificate.Certificate.{Certificate}
 use Rattle.kt_checker.specs.declared.verdict.Verdict.{Verdict}
+use Rattle.kt_checker.specs.declared.verdict.Verdict.TheVariants.{No}
+use Rattle.kt_checker.specs.declared.verdict.Why.TheVariants as why
 use Rattle.kt_checker.specs.Order.{IsCheckerAnswer}
 use Rattle.kt_checker.specs.Streamed.{SaysRows}
 use Rattle.kt_checker.specs.Words.{verdict_words}
@@ -113,9 +115,18 @@ abbrev pub orphan_told : Explanation → Option ℕ
 orphan_told (Orphan inst orphan) = Some orphan.msg
 orphan_told _ = None
 
--- an orphan is the one that is told of the checker's answer to a log and certificates
+-- whether an answer is that there is an orphan
+abbrev pub names_orphan : Verdict → Bool
+names_orphan (No inst row why.Orphan) = true
+names_orphan _ = false
+
+-- an orphan is the one that is told of the checker's answer to a log and certificates; there is none where the answer is another
+abbrev pub IsOrphanIf : Bool → List Event → List Certificate → Verdict → Option ℕ → Type 0
+IsOrphanIf true log certificates verdict orphan = (told : Explanation) × IsExplanation log certificates verdict told × (orphan ≡ orphan_told told)
+IsOrphanIf false log certificates verdict orphan = orphan ≡ None
+
 abbrev pub IsOrphanDrawn : List Event → List Certificate → Verdict → Option ℕ → Type 0
-IsOrphanDrawn log certificates verdict orphan = (told : Explanation) × IsExplanation log certificates verdict told × (orphan ≡ orphan_told told)
+IsOrphanDrawn log certificates verdict orphan = IsOrphanIf (names_orphan verdict) log certificates verdict orphan
 
 -- the line below a picture with certificates: what the checker answers
 abbrev pub answer_sentence : Verdict → List ℕ

@@ -1,6 +1,7 @@
 -- A log that is drawn while its rows are read.
-use Rattle.std.specs.Prelude.{◌≡◌, ◌≤◌, ◌+◌, ◌-◌, ℕ, if◌then◌else◌, nat_lt, Option, Some, None, List, length, take, drop}
+use Rattle.std.specs.Prelude.{◌≡◌, ◌⊎◌, ◌≤◌, ◌+◌, ◌-◌, ℕ, if◌then◌else◌, nat_lt, Option, Some, None, List, [], length, take, drop}
 use Rattle.kt_spacetime.specs.declared.event.Event.{Event}
+use Rattle.kt_chain.specs.declared.certificate.Certificate.{Certificate}
 use Rattle.kt_walk.specs.WalkOf.{WalkOf}
 use Rattle.kt_walk.specs.WalkParts.{WalkParts}
 use Rattle.kt_picture.specs.declared.diagram.Diagram.{Diagram}
@@ -30,6 +31,10 @@ pub record FollowedOf (f : Followed) (rows : List Event) : Type 0 where
   pub walk : WalkOf f.walk rows
   pub some : f.before ≤ f.last
   pub window : ShowsWindow f.sheet f.diagram f.walk f.before f.last rows
+
+-- rows are those that were read, or there are no certificates, whose chains ask for them
+abbrev pub AreRowsRead : List Event → List Event → List Certificate → Type 0
+AreRowsRead rows read certificates = (rows ≡ read) ⊎ (certificates ≡ [])
 
 -- it stands for the first of these rows, up to where reading them as rows stops
 pub record ReadingOf (r : Reading) (span : Span) (rows : List Event) : Type 0 where

@@ -1,7 +1,7 @@
 //! How far a log is read as rows.
 
 ghost use Rattle.std.specs.Prelude.{◌≡◌, ◌≤◌, ◌^◌};
-ghost use Rattle.kt_draw.specs.Drawn.{breach_drawn, rows_drawn, rows_seen};
+ghost use Rattle.kt_draw.specs.Drawn.{breach_drawn, rows_seen};
 
 use kt_picture::Breach;
 
@@ -29,12 +29,5 @@ impl Reach {
         ensures { result ≡ breach_drawn self.now.kept last self.now.breach }
     {
         if self.kept < last { self.breach } else { None }
-    }
-
-    /// How many rows are drawn as rows, where the last one of the picture has this number.
-    pub(crate) fn rows_drawn(&self, last: usize) -> usize
-        ensures { result ≡ rows_drawn self.now.kept last }
-    {
-        if self.kept < last { self.kept } else { last }
     }
 }

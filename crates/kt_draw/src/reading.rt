@@ -2,12 +2,10 @@
 
 ghost use Rattle.std.specs.Prelude.{◌≡◌, ◌≤◌, ◌<◌, ◌+◌, ◌^◌, ◌++◌, ◌∷◌, [], ℕ, List, None, IfOk, IfErr, OnOk, length, take};
 ghost use Rattle.kt_spacetime.specs.declared.event.Event.{Event};
-ghost use Rattle.kt_log_text.specs.declared.fault.LogFault.TheVariants as log_fault;
 ghost use Rattle.kt_picture.specs.Breach.{caption_of};
-ghost use Rattle.kt_picture.specs.Picture.{picture_of};
-ghost use Rattle.kt_draw.specs.declared.fault.DrawFault.TheVariants as draw;
-ghost use Rattle.kt_draw.specs.Drawn.{IsPicture, IsUndrawnLog, breach_drawn};
-ghost use Rattle.kt_draw.specs.Followed.{FollowedOf, ReadingOf};
+ghost use Rattle.kt_draw.specs.declared.span.Span.{Span as Spans};
+ghost use Rattle.kt_draw.specs.Drawn.{IsPictureTo, IsUndrawnLog};
+ghost use Rattle.kt_draw.specs.Followed.{AreRowsRead, ReadingOf};
 
 use crate::fault::DrawFault;
 use crate::followed::Followed;
@@ -61,51 +59,45 @@ impl Reading {
         Ok(())
     }
 
-    /// The picture of the rows that are asked for, of all rows that were read.
+    /// What is said below a picture of all rows that were read: that they are legal, or which one breaks which rule.
+    pub(crate) fn caption(&self, alloc: Global) -> Result<Vec<u8>, Memory>
+        requires few { (span : Spans) × (read : List Event) × ReadingOf self.now span read × (length read ≤ 2 ^ 24) }
+        ensures { IfOk result (λ line. (span : Spans) (read : List Event) (h : ReadingOf self.now span read)
+            → line.items ≡ caption_of (length h.kept + 1) self.now.breach) }
+    {
+        caption(alloc, self.followed.rows() as u32 + 1, self.breach)
+    }
+
+    /// The picture of the rows that are asked for, of all rows that were read, with what certificates tell of them, and this
+    /// line below. The rows are asked for by the chains of certificates alone.
     pub(crate) fn picture(
         &mut self,
         alloc: Global,
         names: &Names,
         span: Span,
+        rows: &[Event],
+        evidence: &Evidence<'_>,
+        line: &[u8],
     ) -> Result<Vec<u8>, DrawFault>
-        requires few { (rows : List Event) × ReadingOf self.old span rows × (length rows ≤ 2 ^ 24) }
-        ensures picture { (rows : List Event) → ReadingOf self.old span rows
-            → IfOk result (λ text. IsPicture names.now span rows text.items) }
-        ensures fault { (rows : List Event) → ReadingOf self.old span rows → IfErr result (IsUndrawnLog span rows) }
+        requires few { (read : List Event) × ReadingOf self.old span read × (length read ≤ 2 ^ 24) }
+        ensures picture { (read : List Event) (h : ReadingOf self.old span read)
+            → AreRowsRead rows.now read evidence.now.certificates.now
+            → IfOk result (λ text. IsPictureTo names.now span read (length h.kept) self.old.breach
+            evidence.now.certificates.now evidence.now.orphan line.now text.items) }
+        ensures fault { (read : List Event) → ReadingOf self.old span read → IfErr result (IsUndrawnLog span read) }
     {
         let reach = Reach {
             kept: self.followed.rows(),
             breach: self.breach,
         };
         match window_of(self.count, reach.seen(), span) {
-            Ok(window) => draw_window(alloc, &mut self.followed, &reach, window.last, names),
+            Ok(window) => {
+                let sheet = self.followed.sheet()?;
+                let breach = reach.breach_drawn(window.last);
+                let text = sheet.picture(alloc, rows, breach, evidence, names, line)?;
+                Ok(text)
+            }
             Err(why) => Err(DrawFault::Picture(why)),
         }
     }
-}
-
-// The picture of a window of a log that is read so far.
-fn draw_window(
-    alloc: Global,
-    followed: &mut Followed,
-    reach: &Reach,
-    last: usize,
-    names: &Names,
-) -> Result<Vec<u8>, DrawFault>
-    requires few { (rows : List Event) × FollowedOf followed.old rows × (followed.old.before ≤ length rows) × (length rows ≤ 2 ^ 24) }
-    requires kept { reach.now.kept ≤ 2 ^ 24 }
-    ensures exact { IfOk result (λ text. (rows : List Event) → FollowedOf followed.old rows → followed.old.before ≤ length rows
-        → text.items ≡ picture_of names.now (take followed.old.last rows) followed.old.before
-        (breach_drawn reach.now.kept last reach.now.breach) [] None (caption_of (reach.now.kept + 1) reach.now.breach)) }
-    ensures fault { IfErr result (λ e. e ≡ draw.Log log_fault.Memory) }
-{
-    let line = caption(alloc, reach.kept as u32 + 1, reach.breach)?;
-    let sheet = followed.sheet()?;
-    let evidence = Evidence {
-        certificates: &[],
-        orphan: None,
-    };
-    let breach = reach.breach_drawn(last);
-    let text = sheet.picture(alloc, &[], breach, &evidence, names, line.as_slice())?;
-    Ok(text)
 }

@@ -9,6 +9,7 @@ use crate::fault::DrawFault;
 use crate::reading::Reading;
 use crate::span::Span;
 use kt_log_text::RowReader;
+use kt_picture::Evidence;
 use kt_plan::Names;
 use std::alloc::Global;
 use std::io::Read;
@@ -69,5 +70,10 @@ fn draw_unread<L: Read + Drop>(
     while let Some(row) = rows.next()? {
         reading.feed(&row, span)?;
     }
-    reading.picture(alloc, names, span)
+    let evidence = Evidence {
+        certificates: &[],
+        orphan: None,
+    };
+    let line = reading.caption(alloc)?;
+    reading.picture(alloc, names, span, &[], &evidence, line.as_slice())
 }

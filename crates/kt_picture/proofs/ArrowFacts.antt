@@ -1,5 +1,5 @@
 -- What became of the messages that rows of a legal log take.
-use Rattle.std.proofs.Common.{◌≡◌, ◌≢◌, ◌∙◌, ◌≤◌, ◌+◌, ◌-◌, inl, inr, ℕ, zero, suc, Bool, true, false, not, Some, List, [], ◌∷◌, length, refl, sym, ap, subst, take, drop, fold, arith}
+use Rattle.std.proofs.Common.{◌≡◌, ◌≢◌, ◌∙◌, ◌≤◌, ◌+◌, ◌-◌, inl, inr, ℕ, zero, suc, Bool, true, false, not, Some, None, List, [], ◌∷◌, length, refl, sym, ap, subst, take, drop, fold, arith}
 use Rattle.std.specs.Prelude.{slice_get, ◌==◌, ◌||◌, ◌↔◌, if◌then◌else◌}
 use Rattle.std.specs.List.{list_any}
 use Rattle.std.proofs.lemmas.Bool.{cases_Bool}
@@ -156,12 +156,12 @@ received_for_good rows j p q msg l at stays = λ i. no_receive i || none_later i
 
 -- an arrow is drawn where the row has one
 pub drawn_at : (view : View) (rows : List Event) (s : Shown) (row : Event) → s.is_in_transit ≡ is_sent_in_transit rows s.row row
-    → (arrow_at view s row ≢ []) ↔ (has_arrow rows s.row row ≡ true)
+    → (arrow_at view s row ≢ None) ↔ (has_arrow rows s.row row ≡ true)
 drawn_at view rows s (Received p q msg) e = (λ n. refl, λ h none. absurd (cc))
 drawn_at view rows s (Dropped p q msg) e = (λ n. refl, λ h none. absurd (cc))
 drawn_at view rows s (Sent p q body) e = at_test s.is_in_transit (sym e)
   where
-    at_test : (b : Bool) → is_sent_in_transit rows s.row (Sent p q body) ≡ b → ((if b then short_arrow view.lanes s p q else []) ≢ []) ↔ (is_sent_in_transit rows s.row (Sent p q body) ≡ true)
+    at_test : (b : Bool) → is_sent_in_transit rows s.row (Sent p q body) ≡ b → ((if b then Some (short_arrow view s p q) else None) ≢ None) ↔ (is_sent_in_transit rows s.row (Sent p q body) ≡ true)
     at_test true same = (λ n. same, λ h none. absurd (cc))
     at_test false same = (λ n. absurd (n refl), λ h. absurd (cc))
 drawn_at view rows s (Began p k kind) e = (λ n. absurd (n refl), λ h. absurd (cc))

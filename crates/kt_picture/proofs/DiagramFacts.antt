@@ -70,12 +70,20 @@ unreasoned names rows (Took p inst) = refl
 unreasoned names rows (Ready p inst) = refl
 unreasoned names rows row = refl
 
-pub same_link : (rows log : List Event) (certificates : List Certificate) (msg : ℕ) → HasRowsFor rows log certificates → link_of (length rows) certificates msg ≡ link_of (length log) certificates msg
+-- the rows up to a window's end
+pub front_for : (s : Sheet) (rows log front : List Event) (before : ℕ) (certificates : List Certificate) → SheetOf s log before → front ≡ take (s.before + s.columns) rows → HasRowsFor rows log certificates
+    → (front ≡ log) ⊎ (certificates ≡ [])
+front_for s rows log front before certificates h e (inl same) =
+    let count : s.before + s.columns ≡ length log = omega (arith, h.before_is, h.columns, h.within, length-drop before log) in
+    inl (e ∙ ap (λ (n : ℕ). take n rows) count ∙ same)
+front_for s rows log front before certificates h e (inr none) = inr none
+
+pub same_link : (rows log : List Event) (certificates : List Certificate) (msg : ℕ) → (rows ≡ log) ⊎ (certificates ≡ []) → link_of (length rows) certificates msg ≡ link_of (length log) certificates msg
 same_link rows log certificates msg (inl same) = ap (λ (l : List Event). link_of (length l) certificates msg) same
 same_link rows log certificates msg (inr none) =
     ap (λ (l : List Certificate). link_of (length rows) l msg) none ∙ unlinked (length rows) msg ∙ sym (unlinked (length log) msg) ∙ ap (λ (l : List Certificate). link_of (length log) l msg) (sym none)
 
-pub same_reason : (names : List (List ℕ)) (rows log : List Event) (certificates : List Certificate) (row : Event) → HasRowsFor rows log certificates → reason_of names rows certificates row ≡ reason_of names log certificates row
+pub same_reason : (names : List (List ℕ)) (rows log : List Event) (certificates : List Certificate) (row : Event) → (rows ≡ log) ⊎ (certificates ≡ []) → reason_of names rows certificates row ≡ reason_of names log certificates row
 same_reason names rows log certificates row (inl same) = ap (λ (l : List Event). reason_of names l certificates row) same
 same_reason names rows log certificates row (inr none) =
     ap (λ (l : List Certificate). reason_of names rows l row) none ∙ unreasoned names rows row ∙ sym (unreasoned names log row) ∙ ap (λ (l : List Certificate). reason_of names log l row) (sym none)
@@ -93,6 +101,7 @@ sheet_of d w front window s h named columns rows shown cuts ends =
     let column : d.known.column ≡ length window = omega (arith, h.known.column, seen_column (seen_before front) window) in
     record {
       named = λ q l. ap (λ (n : ℕ). has n q) named ∙ h.named q l;
+      within = omega (arith, length-append front window);
       before_is = omega (arith, rows, columns, column, h.known.walk.control.number, length-append front window);
       columns = columns ∙ column ∙ ap length (sym tail);
       shown = shown ∙ told_all log (seen_before front) window d.entries.items h.plain ∙ (λ j. shown_rows log (seen_before (sym head j)) (sym tail j));

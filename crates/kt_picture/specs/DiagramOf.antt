@@ -1,5 +1,5 @@
 -- When a diagram stands for rows, those before the window and those of the window so far; and a sheet for a log.
-use Rattle.std.specs.Prelude.{◌≡◌, ◌⊎◌, ℕ, ◌<◌, List, [], ◌++◌, length, drop, map, fold}
+use Rattle.std.specs.Prelude.{◌≡◌, ◌⊎◌, ℕ, ◌<◌, ◌≤◌, List, [], ◌++◌, length, drop, take, map, fold}
 use Rattle.kt_base.specs.Sets.{has}
 use Rattle.kt_spacetime.specs.declared.event.Event.{Event}
 use Rattle.kt_chain.specs.declared.certificate.Certificate.{Certificate}
@@ -28,11 +28,12 @@ pub record DiagramOf (d : Diagram) (w : WalkParts) (front window : List Event) :
 pub record SheetOf (s : Sheet) (log : List Event) (before : ℕ) : Type 0 where
   pub named : (q : ℕ) → q < 64 → has s.named q ≡ is_named log q
   pub before_is : s.before ≡ before
+  pub within : before ≤ length log
   pub columns : s.columns ≡ length (drop before log)
   pub shown : s.window.shown.items ≡ shown_of log before
   pub cuts : s.window.cuts.items ≡ cuts_of log before
   pub ends : s.window.ends.items ≡ ends_of log before
 
--- rows are those of a log, or there are no certificates, whose chains ask for them
+-- rows begin with those of a log, or there are no certificates, whose chains ask for them
 abbrev pub HasRowsFor : List Event → List Event → List Certificate → Type 0
-HasRowsFor rows log certificates = (rows ≡ log) ⊎ (certificates ≡ [])
+HasRowsFor rows log certificates = (take (length log) rows ≡ log) ⊎ (certificates ≡ [])

@@ -1,14 +1,13 @@
 -- What certificates add to a picture: whose chain has a message, and why a member took part.
-use Rattle.std.specs.Prelude.{◌==◌, ℕ, zero, suc, nat_lt, if◌then◌else◌, Bool, Option, Some, None, List, [], ◌∷◌, ◌++◌, codes, length, find}
-use Rattle.std.specs.List.{list_any, flat_map, concat}
+use Rattle.std.specs.Prelude.{◌==◌, ℕ, zero, suc, nat_lt, if◌then◌else◌, Bool, Option, Some, None, List, [], ◌++◌, codes, length, find}
+use Rattle.std.specs.List.{list_any, flat_map}
 use Rattle.std.specs.Fmt.{decimal}
 use Rattle.std.specs.Option.{option_map}
 use Rattle.kt_spacetime.specs.declared.event.Event.{Event}
 use Rattle.kt_spacetime.specs.declared.event.Event.TheVariants.{Sent, Took, Ready}
 use Rattle.kt_cuts.specs.Messages.{row_at}
 use Rattle.kt_chain.specs.declared.certificate.Certificate.{Certificate}
-use Rattle.kt_picture.specs.Escaping.{escaped}
-use Rattle.kt_picture.specs.Lanes.{name_or_number}
+use Rattle.kt_picture.specs.Texts.{name_text}
 
 -- whether a chain has a message
 abbrev pub has_message : ℕ → List ℕ → Bool
@@ -43,7 +42,7 @@ chain_for certificates inst p = chain_listed (find (λ c. c.inst == inst) certif
 
 -- between whom a message went
 abbrev pub ends_between : List (List ℕ) → ℕ → ℕ → List ℕ
-ends_between names p to = codes ":" ++ (escaped (name_or_number names p) ++ (codes "&gt;" ++ escaped (name_or_number names to)))
+ends_between names p to = codes ":" ++ (name_text names p ++ (codes "&gt;" ++ name_text names to))
 
 -- the same, as the row that sent it says
 abbrev pub ends_of_message : List (List ℕ) → Option Event → List ℕ
@@ -52,18 +51,22 @@ ends_of_message names _ = []
 
 -- a message of a chain: its number and between whom it went
 abbrev pub chain_word : List (List ℕ) → List Event → ℕ → List ℕ
-chain_word names rows msg = concat (codes " " ∷ decimal msg ∷ []) ++ ends_of_message names (row_at rows msg)
+chain_word names rows msg = codes " " ++ decimal msg ++ ends_of_message names (row_at rows msg)
 
--- the messages of a chain, by which a member took part
-abbrev pub reason_words : List (List ℕ) → List Event → List ℕ → List ℕ
-reason_words names rows chain = codes "; took part because of" ++ flat_map (chain_word names rows) chain
+-- the chain by which a process joins an instance in a row, as certificates list it
+abbrev pub chain_of : List Certificate → Event → List ℕ
+chain_of certificates (Took p inst) = chain_for certificates inst p
+chain_of certificates (Ready p inst) = chain_for certificates inst p
+chain_of certificates _ = []
 
--- why a member took part: nothing where its chain has no message
+-- the messages of a chain, by which a member took part; nothing is said where there is none
+abbrev pub because : List (List ℕ) → List Event → List ℕ → List ℕ
+because names rows chain = codes "; took part because of" ++ flat_map (chain_word names rows) chain
+
 abbrev pub reason : List (List ℕ) → List Event → List ℕ → List ℕ
-reason names rows chain = if length chain == 0 then [] else reason_words names rows chain
+reason names rows chain =
+    if length chain == 0 then [] else because names rows chain
 
--- the same of the process that joins an instance by a row
+-- so of the process that joins an instance by a row
 abbrev pub reason_of : List (List ℕ) → List Event → List Certificate → Event → List ℕ
-reason_of names rows certificates (Took p inst) = reason names rows (chain_for certificates inst p)
-reason_of names rows certificates (Ready p inst) = reason names rows (chain_for certificates inst p)
-reason_of names rows certificates _ = []
+reason_of names rows certificates row = reason names rows (chain_of certificates row)

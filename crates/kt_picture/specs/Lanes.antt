@@ -1,7 +1,6 @@
 -- Which processes have a lane.
-use Rattle.std.specs.Prelude.{ℕ, ◌||◌, ◌==◌, Bool, List, filter, count_by, nat_lt, slice_index_or}
+use Rattle.std.specs.Prelude.{ℕ, ◌||◌, ◌==◌, Bool, List, filter, count_by, nat_lt}
 use Rattle.std.specs.List.{list_any, range_with_len}
-use Rattle.std.specs.Fmt.{decimal}
 use Rattle.kt_spacetime.specs.declared.event.Event.{Event}
 use Rattle.kt_spacetime.specs.declared.event.Event.TheVariants.{Sent, Received, Dropped}
 use Rattle.kt_spacetime.specs.Events.{process_of}
@@ -24,7 +23,3 @@ lanes_in rows = filter (is_named rows) (range_with_len 0 64)
 -- the lane of a process, from 0: how many lanes are of lesser processes
 abbrev pub lane_of : List ℕ → ℕ → ℕ
 lane_of lanes p = count_by (λ q. nat_lt q p) lanes
-
--- the name of a process, or its number where it has none
-abbrev pub name_or_number : List (List ℕ) → ℕ → List ℕ
-name_or_number names p = slice_index_or names p (decimal p)

@@ -1,9 +1,14 @@
--- The classes and the outlines of marks; an outline begins at the middle of its place.
-use Rattle.std.specs.Prelude.{ℕ, Bool, true, false, Option, Some, None, List, codes}
+-- How marks look, and where they stand; an outline begins at the middle of its place.
+use Rattle.std.specs.Prelude.{ℕ, ◌+◌, ◌-◌, ◌*◌, ◌%◌, if◌then◌else◌, Bool, true, false, Option, Some, None, List, [], ◌∷◌, ◌++◌, codes}
+use Rattle.std.specs.List.{concat}
+use Rattle.std.specs.Fmt.{decimal}
 use Rattle.kt_picture.specs.declared.looks.Look.{Look}
 use Rattle.kt_picture.specs.declared.looks.Look.TheVariants as look
 use Rattle.kt_picture.specs.declared.looks.Outline.{Outline}
 use Rattle.kt_picture.specs.declared.looks.Outline.TheVariants as outline
+use Rattle.kt_picture.specs.declared.looks.Figure.{Figure}
+use Rattle.kt_picture.specs.declared.looks.Path.{Path}
+use Rattle.kt_picture.specs.declared.looks.Spot.{Spot}
 
 -- the class of a mark, as the style sheet names it
 abbrev pub class_text : Look → List ℕ
@@ -27,34 +32,24 @@ class_text look.Refused = codes "w"
 class_text look.Open = codes "f"
 class_text look.Full = codes "f full"
 class_text look.Cut = codes "cut"
-class_text look.Number = codes "num"
-class_text look.Instance = codes "inst"
-class_text look.Cause = codes "bad"
-class_text look.Label = codes "say"
 
--- a square, crossed after an abort
-abbrev pub square : Option Bool → List ℕ
-square (Some false) = codes "m-7 -7h14v14h-14zl14 14"
-square (Some true) = codes "m-7 -7h14v14h-14z"
-square None = codes "m-7 -7h14v14h-14z"
+-- the same in an instance's colour, one of six, or in none
+abbrev pub paint_text : Look → Option ℕ → List ℕ
+paint_text look None = class_text look
+paint_text look (Some inst) = class_text look ++ (codes " c" ++ decimal (inst % 6))
 
--- a triangle that points back, crossed after an abort
-abbrev pub triangle : Option Bool → List ℕ
-triangle (Some false) = codes "m7 -8v16l-15 -8zm-10 3l8 10"
-triangle (Some true) = codes "m7 -8v16l-15 -8z"
-triangle None = codes "m7 -8v16l-15 -8z"
+-- where a column and a lane are, in units of the picture
+abbrev pub x_of : ℕ → ℕ
+x_of column = 136 + 26 * column
 
--- a diamond, crossed for an abort
-abbrev pub diamond : Bool → List ℕ
-diamond true = codes "m0 -8l8 8l-8 8l-8 -8z"
-diamond false = codes "m0 -8l8 8l-8 8l-8 -8zm-4 4l8 8"
+abbrev pub y_of : ℕ → ℕ
+y_of lane = 90 + 64 * lane
 
--- a short way down, or up
-abbrev pub way : Bool → List ℕ
-way true = codes "l9 11"
-way false = codes "l9 -11"
+-- where a column crosses a lane
+abbrev pub place_text : ℕ → ℕ → List ℕ
+place_text column lane = concat (decimal (x_of column) ∷ codes " " ∷ decimal (y_of lane) ∷ [])
 
--- the outline of a mark
+-- the outline of a mark: of a checkpoint, of a rollback, which points back, and of a decision it is crossed after an abort
 abbrev pub outline_text : Outline → List ℕ
 outline_text outline.Dot = codes "m-3 0a3 3 0 1 0 6 0a3 3 0 1 0 -6 0"
 outline_text outline.Tick = codes "m0 -4v8"
@@ -64,7 +59,30 @@ outline_text outline.Ban = codes "m-6 0a6 6 0 1 0 12 0a6 6 0 1 0 -12 0m2 -4l8 8"
 outline_text outline.Line = codes "m-12 0h24"
 outline_text outline.Beginning = codes "m-5 0h10"
 outline_text outline.Ending = codes "m0 -5v10"
-outline_text (outline.Square decision) = square decision
-outline_text (outline.Triangle decision) = triangle decision
-outline_text (outline.Diamond commit) = diamond commit
-outline_text (outline.Way down) = way down
+outline_text (outline.Square false) = codes "m-7 -7h14v14h-14z"
+outline_text (outline.Square true) = codes "m-7 -7h14v14h-14zl14 14"
+outline_text (outline.Triangle false) = codes "m7 -8v16l-15 -8z"
+outline_text (outline.Triangle true) = codes "m7 -8v16l-15 -8zm-10 3l8 10"
+outline_text (outline.Diamond false) = codes "m0 -8l8 8l-8 8l-8 -8z"
+outline_text (outline.Diamond true) = codes "m0 -8l8 8l-8 8l-8 -8zm-4 4l8 8"
+outline_text (outline.Way true) = codes "l9 11"
+outline_text (outline.Way false) = codes "l9 -11"
+outline_text (outline.To to) = codes "L" ++ place_text to.column to.lane
+
+-- a figure at a place
+abbrev pub path_text : Path → List ℕ
+path_text path = concat (
+    codes "<path class='" ∷ paint_text path.figure.paint.look path.figure.paint.inst ∷ codes "' d='M" ∷ place_text path.from.column path.from.lane
+    ∷ outline_text path.figure.outline ∷ codes "'/>" ∷ [])
+
+-- a shape of a class, in an instance's colour or in none
+abbrev pub shape : Look → Option ℕ → Outline → Figure
+shape look inst outline = record { paint = record { look = look; inst = inst }; outline = outline }
+
+-- where a word stands: in one of four lines between two lanes, the next column's in the next line, so that no two words
+-- cover each other
+abbrev pub word_y : ℕ → Bool → ℕ → ℕ
+word_y lane below column = (if below then y_of lane + 20 else y_of lane - 44) + 10 * (column % 4)
+
+abbrev pub spot_text : Spot → List ℕ
+spot_text s = concat (codes "x='" ∷ decimal (x_of s.at.column) ∷ codes "' y='" ∷ decimal (word_y s.at.lane s.below s.at.column) ∷ codes "' dx='4" ∷ [])

@@ -1,57 +1,37 @@
--- The marks of rows: stretches of lanes, arrows, and what shows a row at its place.
-use Rattle.std.specs.Prelude.{ℕ, ◌-◌, ◌==◌, nat_lt, is_some, if◌then◌else◌, Bool, true, false, Option, Some, None, List, [], ◌∷◌, ◌++◌, codes}
-use Rattle.std.specs.List.{concat}
-use Rattle.std.specs.Fmt.{decimal}
+-- Which marks show a row.
+use Rattle.std.specs.Prelude.{ℕ, ℤ, ◌-◌, ◌%◌, ◌==◌, ◌||◌, nat_lt, nat_le, is_some, slice_get, if◌then◌else◌, Bool, true, false, not, Option, Some, None, List}
 use Rattle.kt_spacetime.specs.declared.event.Event.{Event}
 use Rattle.kt_spacetime.specs.declared.event.Event.TheVariants.{Sent, Received, Dropped, Began, Took, Ready, Unwilling, Decided, Closed, Failed, Refused}
 use Rattle.kt_spacetime.specs.Events.{process_of}
-use Rattle.kt_text.specs.Writing.{joined}
-use Rattle.kt_log_text.specs.Spelling.{spelling}
+use Rattle.kt_picture.specs.declared.looks.Figure.{Figure}
 use Rattle.kt_picture.specs.declared.looks.Look.{Look}
 use Rattle.kt_picture.specs.declared.looks.Look.TheVariants as look
-use Rattle.kt_picture.specs.declared.looks.Outline.{Outline}
 use Rattle.kt_picture.specs.declared.looks.Outline.TheVariants as outline
-use Rattle.kt_picture.specs.declared.figures.Dress.{Dress}
-use Rattle.kt_picture.specs.declared.figures.Figure.{Figure}
+use Rattle.kt_picture.specs.declared.looks.Paint.{Paint}
+use Rattle.kt_picture.specs.declared.looks.Path.{Path}
+use Rattle.kt_picture.specs.declared.looks.Place.{Place}
+use Rattle.kt_picture.specs.declared.mark.Mark.{Mark}
+use Rattle.kt_picture.specs.declared.mark.Mark.TheVariants as mark
 use Rattle.kt_picture.specs.declared.shown.Shown.{Shown}
+use Rattle.kt_picture.specs.declared.words.Saying.{Saying}
+use Rattle.kt_picture.specs.declared.words.Saying.TheVariants as say
 use Rattle.kt_picture.specs.Lanes.{lane_of}
-use Rattle.kt_picture.specs.Looks.{class_text}
-use Rattle.kt_picture.specs.Shapes.{x_of, y_of, colour_text, shape}
+use Rattle.kt_picture.specs.Looks.{shape}
 use Rattle.kt_picture.specs.View.{View}
 
--- how a tooltip begins, with the number and the text of a row
-abbrev pub row_words : ℕ → Event → List ℕ
-row_words number row = concat (codes "<g><title>row " ∷ decimal number ∷ codes ": " ∷ []) ++ joined (spelling row)
+-- where a column crosses the lane of a process
+abbrev pub place_at : View → ℕ → ℕ → Place
+place_at view column p = record { column = column; lane = lane_of view.lanes p }
 
--- a tooltip with the number and the text of a row, and what else is said
-abbrev pub title : List ℕ → ℕ → Event → List ℕ
-title more number row = row_words number row ++ (more ++ codes "</title>")
-
--- a line of a class along a lane, from column to column
-abbrev pub line : Look → Option ℕ → ℕ → ℕ → ℕ → List ℕ
-line look inst lane since column = concat (
-    codes "<path class='" ∷ class_text look ∷ colour_text inst ∷ codes "' d='M" ∷ decimal (x_of since) ∷ codes " " ∷ decimal (y_of lane)
-    ∷ codes "H" ∷ decimal (x_of column) ∷ codes "'/>\n" ∷ [])
-
--- how a lane is drawn: dashed while its process is down
-abbrev pub lane_look : Bool → Look
-lane_look true = look.Up
-lane_look false = look.Down
-
--- the bar under the lane of a process that is in an instance
-abbrev pub bar : Option ℕ → ℕ → ℕ → ℕ → List ℕ
-bar None lane since column = []
-bar (Some inst) lane since column = line look.Bar (Some inst) lane since column
-
--- a stretch of a lane
-abbrev pub stretch : ℕ → ℕ → ℕ → Bool → Option ℕ → List ℕ
-stretch lane since column up open_in = bar open_in lane since column ++ line (lane_look up) None lane since column
+-- the place of a row
+abbrev pub place_of : View → Shown → Place
+place_of view s = place_at view s.column (process_of s.event)
 
 -- the stretch of a process's lane up to a row
-abbrev pub stretch_of : View → Shown → List ℕ
-stretch_of view s = stretch (lane_of view.lanes (process_of s.event)) s.since s.column s.up s.open_in
+abbrev pub stretch_of : View → Shown → Mark
+stretch_of view s = mark.Stretch (record { from = place_at view s.since (process_of s.event); until = s.column; up = s.up; open_in = s.open_in })
 
--- how an arrow is drawn whose send is undone, whose receive is, which is the orphan that stands out, which is in a chain
+-- how an arrow looks whose send is undone, whose receive is, which is the orphan that stands out, which is in a chain
 abbrev pub arrow_look : Bool → Bool → Bool → Bool → Look
 arrow_look true true stands_out linked = look.Vanished
 arrow_look false true stands_out linked = look.Unreceived
@@ -81,12 +61,8 @@ colour_for _ link = None
 abbrev pub look_of : View → Shown → ℕ → Look
 look_of view s msg = arrow_look s.is_undone s.is_taken_back (stands_out view.orphan msg) (is_some (view.link msg))
 
-abbrev pub dress : Look → Option ℕ → Dress
-dress look inst = record { look = look; inst = inst }
-
-abbrev pub dress_of : Shown → Bool → Option ℕ → Dress
-dress_of s stands_out link =
-    dress (arrow_look s.is_undone s.is_taken_back stands_out (is_some link)) (colour_for (arrow_look s.is_undone s.is_taken_back stands_out (is_some link)) link)
+abbrev pub paint_of : Look → Option ℕ → Paint
+paint_of look link = record { look = look; inst = colour_for look link }
 
 -- the column of the row that sent a message, where so many rows come before the window; 0 is the left end
 abbrev pub column_of : ℕ → ℕ → ℕ
@@ -96,74 +72,99 @@ column_of before msg = msg - before
 abbrev pub tail_of : ℕ → ℕ → ℕ → ℕ
 tail_of before msg column = if nat_lt column (column_of before msg) then column else column_of before msg
 
--- a line of an arrow from one place to another
-abbrev pub arrow_path : Dress → ℕ → ℕ → ℕ → ℕ → List ℕ
-arrow_path d tail from column lane = concat (
-    codes "<path class='" ∷ class_text d.look ∷ colour_text d.inst ∷ codes "' d='M" ∷ decimal (x_of tail) ∷ codes " " ∷ decimal (y_of from)
-    ∷ codes "L" ∷ decimal (x_of column) ∷ codes " " ∷ decimal (y_of lane) ∷ codes "'/></g>\n" ∷ [])
-
 -- an arrow from where a message was sent to where it was taken
-abbrev pub arrow : View → Shown → ℕ → ℕ → List ℕ
-arrow view s from msg =
-    title [] s.row s.event
-    ++ arrow_path (dress_of s (stands_out view.orphan msg) (view.link msg)) (tail_of view.before msg s.column) (lane_of view.lanes from) s.column (lane_of view.lanes (process_of s.event))
+abbrev pub arrow : View → Shown → ℕ → ℕ → Path
+arrow view s from msg = record {
+  from = place_at view (tail_of view.before msg s.column) from;
+  figure = record { paint = paint_of (look_of view s msg) (view.link msg); outline = outline.To (place_of view s) };
+}
 
--- the short arrow of a message that is in transit at the window's end, which points to its receiver's lane
-abbrev pub short_arrow : List ℕ → Shown → ℕ → ℕ → List ℕ
-short_arrow lanes s p to =
-    title [] s.row s.event
-    ++ (shape look.Way None s.column (lane_of lanes p) (outline.Way (nat_lt (lane_of lanes p) (lane_of lanes to))) ++ codes "</g>\n")
+-- the short arrow of a message in transit, which points to its receiver's lane
+abbrev pub short_arrow : View → Shown → ℕ → ℕ → Path
+short_arrow view s p to =
+    record { from = place_of view s; figure = shape look.Way None (outline.Way (nat_lt (lane_of view.lanes p) (lane_of view.lanes to))) }
 
 -- the arrow of a row that takes a message, or that sends one which is in transit at the window's end
-abbrev pub arrow_at : View → Shown → Event → List ℕ
-arrow_at view s (Sent p to body) = if s.is_in_transit then short_arrow view.lanes s p to else []
-arrow_at view s (Received p from msg) = arrow view s from msg
-arrow_at view s (Dropped p from msg) = arrow view s from msg
-arrow_at view s _ = []
+abbrev pub arrow_at : View → Shown → Event → Option Path
+arrow_at view s (Sent p to body) = if s.is_in_transit then Some (short_arrow view s p to) else None
+arrow_at view s (Received p from msg) = Some (arrow view s from msg)
+arrow_at view s (Dropped p from msg) = Some (arrow view s from msg)
+arrow_at view s _ = None
 
-abbrev pub arrow_of : View → Shown → List ℕ
+abbrev pub arrow_of : View → Shown → Option Path
 arrow_of view s = arrow_at view s s.event
-
--- a shape of a class, in an instance's colour or in none
-abbrev pub figure : Look → Option ℕ → Outline → Figure
-figure look inst outline = record { look = look; inst = inst; outline = outline }
 
 -- pale where it is undone
 abbrev pub dot_look : Bool → Look
 dot_look true = look.PaleDot
 dot_look false = look.Dot
 
-abbrev pub tick_look : Bool → Bool → Look
-tick_look false false = look.Tick
-tick_look true taken_back = look.PaleTick
-tick_look false true = look.PaleTick
+abbrev pub tick_look : Bool → Look
+tick_look true = look.PaleTick
+tick_look false = look.Tick
 
--- filled after a commit, else open
+-- filled after a commit, else open, and crossed after an abort
 abbrev pub fill_look : Option Bool → Look
 fill_look (Some true) = look.Full
 fill_look (Some false) = look.Open
 fill_look None = look.Open
 
--- what shows a row at its place
+abbrev pub is_crossed : Option Bool → Bool
+is_crossed (Some commit) = not commit
+is_crossed None = false
+
+-- the figure of a row
 abbrev pub figure_at : Shown → Event → Figure
-figure_at s (Sent p to body) = figure (dot_look s.is_undone) None outline.Dot
-figure_at s (Received p from msg) = figure (tick_look s.is_undone s.is_taken_back) None outline.Tick
-figure_at s (Dropped p from msg) = figure look.Dropped None outline.Cross
-figure_at s (Began p inst kind) = figure look.Bar (Some inst) outline.Beginning
-figure_at s (Took p inst) = figure (fill_look s.decision) (Some inst) (outline.Square s.decision)
-figure_at s (Ready p inst) = figure (fill_look s.decision) (Some inst) (outline.Triangle s.decision)
-figure_at s (Unwilling p inst cause) = figure look.Refused None outline.Ban
-figure_at s (Decided p inst commit) = figure (fill_look (Some commit)) (Some inst) (outline.Diamond commit)
-figure_at s (Closed p inst) = figure look.Open (Some inst) outline.Ending
-figure_at s (Failed p) = figure look.Failed None outline.Bolt
-figure_at s (Refused p verb cause) = figure look.Refused None outline.Ban
+figure_at s (Sent p to body) = shape (dot_look s.is_undone) None outline.Dot
+figure_at s (Received p from msg) = shape (tick_look (s.is_undone || s.is_taken_back)) None outline.Tick
+figure_at s (Dropped p from msg) = shape look.Dropped None outline.Cross
+figure_at s (Began p inst kind) = shape look.Bar (Some inst) outline.Beginning
+figure_at s (Took p inst) = shape (fill_look s.decision) (Some inst) (outline.Square (is_crossed s.decision))
+figure_at s (Ready p inst) = shape (fill_look s.decision) (Some inst) (outline.Triangle (is_crossed s.decision))
+figure_at s (Unwilling p inst cause) = shape look.Refused None outline.Ban
+figure_at s (Decided p inst commit) = shape (fill_look (Some commit)) (Some inst) (outline.Diamond (not commit))
+figure_at s (Closed p inst) = shape look.Open (Some inst) outline.Ending
+figure_at s (Failed p) = shape look.Failed None outline.Bolt
+figure_at s (Refused p verb cause) = shape look.Refused None outline.Ban
 
--- a shape at a place
-abbrev pub drawn : Figure → ℕ → ℕ → List ℕ
-drawn f column lane = shape f.look f.inst column lane f.outline
+-- what shows a row at its place
+abbrev pub figure_of : View → Shown → Path
+figure_of view s = record { from = place_of view s; figure = figure_at s s.event }
 
--- the same in its process's lane, under its tooltip, which says why a process took part
-abbrev pub figure_of : View → Shown → List ℕ
-figure_of view s =
-    title (view.reason s.event) s.row s.event
-    ++ (drawn (figure_at s s.event) s.column (lane_of view.lanes (process_of s.event)) ++ codes "</g>\n")
+-- the number of the row of each fifth column
+abbrev pub number_at : ℕ → ℕ → Option Mark
+number_at row column = if column % 5 == 0 then Some (mark.RowNumber row column) else None
+
+-- the body of a message that a row sends
+abbrev pub body_sent : Event → Option ℤ
+body_sent (Sent p to body) = Some body
+body_sent _ = None
+
+abbrev pub body_shown : Option Shown → Option ℤ
+body_shown None = None
+body_shown (Some s) = body_sent s.event
+
+-- the body of a message that a row of the window sent
+abbrev pub body_of : View → ℕ → Option ℤ
+body_of view msg = if nat_lt view.before msg then body_shown (slice_get view.shown (msg - view.before - 1)) else None
+
+-- a word below or above the place of a row
+abbrev pub word : View → Shown → Bool → Saying → Mark
+word view s below saying = mark.Word (record { spot = record { at = place_of view s; below = below }; saying = saying })
+
+-- the word beside the arrow of a message between a process and another one, on the other one's side, where the window is so
+-- short that it is legible
+abbrev pub label : View → Shown → ℕ → ℕ → ℕ → Option ℤ → Option Mark
+label view s p other msg body =
+    if nat_le view.columns 64 then Some (word view s (nat_lt (lane_of view.lanes p) (lane_of view.lanes other)) (say.Message msg body)) else None
+
+-- the word beside the mark of a row, or beside its arrow
+abbrev pub word_at : View → Shown → Event → Option Mark
+word_at view s (Sent p to body) = if s.is_in_transit then label view s p to s.row (Some body) else None
+word_at view s (Received p from msg) = label view s p from msg (body_of view msg)
+word_at view s (Dropped p from msg) = label view s p from msg (body_of view msg)
+word_at view s (Began p inst kind) = Some (word view s false (say.Instance kind inst))
+word_at view s (Decided p inst commit) = Some (word view s true (say.Row s.row))
+word_at view s (Unwilling p inst cause) = Some (word view s true (say.Why cause))
+word_at view s (Refused p verb cause) = Some (word view s true (say.Why cause))
+word_at view s _ = None

@@ -1,16 +1,23 @@
--- What marks are drawn by, beside their rows.
+-- What marks are drawn by.
 use Rattle.std.specs.Prelude.{ℕ, List, Option}
 use Rattle.kt_spacetime.specs.declared.event.Event.{Event}
+use Rattle.kt_picture.specs.declared.breach.Breach.{Breach}
 use Rattle.kt_picture.specs.declared.shown.Shown.{Shown}
+use Rattle.kt_picture.specs.declared.shown.CutMark.{CutMark}
+use Rattle.kt_picture.specs.declared.shown.End.{End}
 
 -- the names of processes, and which of them have a lane; how many rows come before the window, how many columns there are,
--- and what its rows show; in whose chain a message is, which orphan stands out, and why a process joins by a row
+-- what its rows show, its permanent cuts, how lanes go on behind it, and the row after it that breaks a rule; in whose chain a
+-- message is, which orphan stands out, and why a process joins by a row
 pub record View : Type 0 where
   pub names : List (List ℕ)
   pub lanes : List ℕ
   pub before : ℕ
   pub columns : ℕ
   pub shown : List Shown
+  pub cuts : List CutMark
+  pub ends : List End
+  pub breach : Option Breach
   pub link : ℕ → Option ℕ
   pub orphan : Option ℕ
   pub reason : Event → List ℕ

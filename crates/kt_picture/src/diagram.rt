@@ -1,6 +1,6 @@
 //! A space-time diagram under way: rows come one after another, and are not kept.
 
-ghost use Rattle.std.specs.Prelude.{◌≡◌, ◌≤◌, ◌<◌, ◌^◌, ◌+◌, ◌++◌, ◌∷◌, [], ℕ, List, Some, Err, IfOk, OnOk, OnErr, if◌then◌else◌, length};
+ghost use Rattle.std.specs.Prelude.{◌≡◌, ◌≤◌, ◌<◌, ◌^◌, ◌+◌, ◌++◌, ◌∷◌, [], ℕ, List, Some, Err, IfOk, OnOk, OnErr, if◌then◌else◌, length, take};
 ghost use Rattle.kt_base.specs.Sets.{has};
 ghost use Rattle.kt_spacetime.specs.declared.event.Event.{Event};
 ghost use Rattle.kt_cuts.specs.declared.rules.Rule.{Rule};
@@ -11,8 +11,7 @@ ghost use Rattle.kt_walk.specs.WalkParts.{WalkParts};
 ghost use Rattle.kt_picture.specs.DiagramOf.{DiagramOf, HasRowsFor, SheetOf};
 ghost use Rattle.kt_picture.specs.Breach.{breach_rows};
 ghost use Rattle.kt_picture.specs.Lanes.{is_named};
-ghost use Rattle.kt_picture.specs.Pages.{view_in};
-ghost use Rattle.kt_picture.specs.Picture.{picture_of, picture_text};
+ghost use Rattle.kt_picture.specs.Picture.{picture_of};
 ghost use Rattle.kt_picture.specs.KnownAtRow.{cut_in};
 
 use crate::breach::Breach;
@@ -21,7 +20,7 @@ use crate::evidence::Evidence;
 use crate::items::push_item;
 use crate::known::Known;
 use crate::lanes::{Lanes, with_named};
-use crate::layers::push_picture;
+use crate::layers::text_of;
 use crate::links::Links;
 use crate::page::Page;
 use crate::shown::CutMark;
@@ -161,8 +160,21 @@ pub struct Sheet {
 }
 
 impl Sheet {
-    /// The picture of the window, as one SVG document: what `draw` writes. The rows are those up to the window's end; they
-    /// are asked for by the chains of certificates alone.
+    /// The picture of the window, as one SVG document, with a line of text below. The row after the window that breaks a
+    /// rule, where there is one, is drawn as what it says in a column of its own, in the colour of a warning, and lanes end
+    /// there. The rows begin with those up to the window's end; they are asked for by the chains of certificates alone.
+    ///
+    /// The processes that the log names have a lane each, from above by rising number, with their names or else their
+    /// numbers; each row has a column, from left to right, and a tooltip with its number and its text. A lane is dashed
+    /// while its process is down, and lies on a bar while its process is in an instance. What became of a message or an
+    /// instance is what the log says at the window's end: an arrow is grey and dashed where the send is undone, grey and
+    /// thin where the receive is, short where the message is in transit; squares (`took`) and triangles (`ready`) are filled
+    /// after a commit and crossed after an abort. A permanent cut is drawn where it differs from the one before. Up to 64
+    /// columns messages have their numbers and bodies; each fifth column and each decision has its row's number. The text
+    /// below is escaped; under it stands a legend of the marks that there are.
+    ///
+    /// A message that certificates have in a chain is drawn in the colour of the instance, and the row in which a member
+    /// joins tells in its tooltip which messages bound it; the orphan that is named stands out.
     pub fn picture(
         &self,
         alloc: Global,
@@ -179,36 +191,35 @@ impl Sheet {
             evidence.now.certificates.now evidence.now.orphan caption.now) }
     {
         let lanes = Lanes::of_named(alloc, with_breach(self.named, breach))?;
+        let rows = front_of(rows, (self.before + self.columns) as usize);
         let links = Links::of(alloc, evidence.certificates, rows.len())?;
         let page = Page {
+            alloc,
             names,
             lanes: &lanes,
             before: self.before,
             columns: columns_of(self.columns, breach.is_some()),
             shown: self.window.shown.as_slice(),
+            cuts: self.window.cuts.as_slice(),
+            ends: self.window.ends.as_slice(),
+            breach,
             certificates: evidence.certificates,
             orphan: evidence.orphan,
             rows,
             links: &links,
         };
-        self.text(alloc, &page, &breach, caption)
+        text_of(alloc, &page, caption)
     }
+}
 
-    // The picture of the window on a page.
-    fn text(
-        &self,
-        alloc: Global,
-        page: &Page<'_>,
-        breach: &Option<Breach>,
-        caption: &[u8],
-    ) -> Result<Vec<u8>, Memory>
-        requires few { page.now.before + page.now.columns < 2 ^ 25 }
-        ensures { IfOk result (λ t. t.items
-            ≡ picture_text (view_in page.now) self.now.window.cuts.items self.now.window.ends.items breach.now caption.now) }
-    {
-        let mut text = Vec::new(alloc);
-        push_picture(&mut text, page, &self.window, breach, caption)?;
-        Ok(text)
+// The first so many rows.
+fn front_of(rows: &[Event], count: usize) -> &[Event]
+    ensures { result.now ≡ take count rows.now }
+{
+    if count < rows.len() {
+        &rows[..count]
+    } else {
+        rows
     }
 }
 

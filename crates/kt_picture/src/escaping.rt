@@ -4,7 +4,6 @@ ghost use Rattle.std.specs.Prelude.{◌≡◌, ◌<◌, ◌++◌, ℕ, List, tru
 ghost use Rattle.std.specs.List.{list_all};
 ghost use Rattle.kt_picture.specs.Escaping.{escaped_byte, escaped, is_no_mark};
 
-use crate::parts::push_text;
 use kt_base::Memory;
 
 /// Gathers a text of others, in which nothing is read as a mark.
@@ -30,12 +29,12 @@ fn push_byte(text: &mut Vec<u8>, byte: u8) -> Result<(), Memory>
     ensures { OnOk result (text.new.items ≡ text.old.items ++ escaped_byte byte) }
 {
     match byte {
-        b'"' => push_text(text, b"&quot;"),
-        b'&' => push_text(text, b"&amp;"),
-        b'\'' => push_text(text, b"&apos;"),
-        b'<' => push_text(text, b"&lt;"),
-        b'>' => push_text(text, b"&gt;"),
-        _ => push_text(text, &[byte]),
+        b'"' => Ok(text.extend_from_slice(b"&quot;")?),
+        b'&' => Ok(text.extend_from_slice(b"&amp;")?),
+        b'\'' => Ok(text.extend_from_slice(b"&apos;")?),
+        b'<' => Ok(text.extend_from_slice(b"&lt;")?),
+        b'>' => Ok(text.extend_from_slice(b"&gt;")?),
+        _ => Ok(text.push(byte)?),
     }
 }
 

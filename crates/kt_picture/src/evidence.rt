@@ -1,18 +1,17 @@
 //! What certificates add to a picture: whose chain has a message, and why a member took part.
 
-ghost use Rattle.std.specs.Prelude.{◌≡◌, ◌++◌, ◌==◌, Some, OnOk, find, flat_map};
+ghost use Rattle.std.specs.Prelude.{◌≡◌, ◌++◌, ◌==◌, OnOk, Some, find, string_bytes};
+ghost use Rattle.std.specs.List.{flat_map};
 ghost use Rattle.std.specs.Option.{option_copied};
+ghost use Rattle.kt_picture.specs.Evidence.{because, chain_for, chain_of, chain_of_member, chain_word, ends_between, ends_of_message};
 ghost use Rattle.kt_cuts.specs.Messages.{row_at};
-ghost use Rattle.kt_picture.specs.Evidence.{chain_for, chain_of_member, chain_word, ends_between, ends_of_message, reason, reason_words};
 ghost use Rattle.kt_picture.specs.Pages.{reason_in};
 
-use crate::layers::push_name_of;
 use crate::page::Page;
-use crate::parts::{Part, push_parts, push_text};
 use kt_base::{InstNo, Memory, MsgNo, ProcNo};
 use kt_chain::{Certificate, Chain};
-use kt_plan::Names;
 use kt_spacetime::Event;
+use std::fmt::Write;
 
 /// What is told of a log by its certificates, for a picture of it.
 #[derive(Clone, Copy)]
@@ -25,13 +24,45 @@ pub struct Evidence<'a> {
 }
 
 /// Gathers why a process took part that joins an instance by a row.
-pub(crate) fn push_reason_of(text: &mut Vec<u8>, page: &Page<'_>, row: Event) -> Result<(), Memory>
-    ensures { OnOk result (text.new.items ≡ text.old.items ++ reason_in page.now row) }
+pub(crate) fn push_reason(text: &mut String, page: &Page<'_>, row: Event) -> Result<(), Memory>
+    ensures { OnOk result (string_bytes text.new ≡ string_bytes text.old ++ reason_in page.now row) }
+{
+    let chain = chain_of(page.certificates, row);
+    if chain.is_empty() {
+        Ok(())
+    } else {
+        push_because(text, page, chain)
+    }
+}
+
+// Gathers by which messages a member took part.
+fn push_because(text: &mut String, page: &Page<'_>, chain: &[MsgNo]) -> Result<(), Memory>
+    ensures { OnOk result (string_bytes text.new ≡ string_bytes text.old
+        ++ because page.now.names.now page.now.rows.now chain.now) }
+{
+    write!(text, "; took part because of")?;
+    push_links(text, page, chain)
+}
+
+// Gathers the messages of a chain.
+fn push_links(text: &mut String, page: &Page<'_>, chain: &[MsgNo]) -> Result<(), Memory>
+    ensures { OnOk result (string_bytes text.new ≡ string_bytes text.old
+        ++ flat_map (chain_word page.now.names.now page.now.rows.now) chain.now) }
+{
+    for msg in chain {
+        push_link(text, page, *msg)?;
+    }
+    Ok(())
+}
+
+// The chain by which a process joins an instance in a row, as certificates list it.
+fn chain_of(certificates: &[Certificate], row: Event) -> &[MsgNo]
+    ensures { result.now ≡ chain_of certificates.now row }
 {
     match row {
-        Event::Took { p, inst } => push_reason(text, page, chain_for(page.certificates, inst, p)),
-        Event::Ready { p, inst } => push_reason(text, page, chain_for(page.certificates, inst, p)),
-        _ => Ok(()),
+        Event::Took { p, inst } => chain_for(certificates, inst, p),
+        Event::Ready { p, inst } => chain_for(certificates, inst, p),
+        _ => &[],
     }
 }
 
@@ -69,44 +100,14 @@ fn chain_listed(members: &[(ProcNo, Chain)], p: ProcNo) -> &[MsgNo]
     &[]
 }
 
-// Gathers why a member took part that has this chain.
-fn push_reason(text: &mut Vec<u8>, page: &Page<'_>, chain: &[MsgNo]) -> Result<(), Memory>
-    ensures { OnOk result (text.new.items ≡ text.old.items
-        ++ reason page.now.names.now page.now.rows.now chain.now) }
+// Gathers a message of a chain: its number, and between whom it went.
+fn push_link(text: &mut String, page: &Page<'_>, msg: MsgNo) -> Result<(), Memory>
+    ensures { OnOk result (string_bytes text.new ≡ string_bytes text.old
+        ++ chain_word page.now.names.now page.now.rows.now msg) }
 {
-    if chain.is_empty() {
-        Ok(())
-    } else {
-        push_reason_words(text, page, chain)
-    }
-}
-
-// Gathers by which messages a member took part.
-fn push_reason_words(text: &mut Vec<u8>, page: &Page<'_>, chain: &[MsgNo]) -> Result<(), Memory>
-    ensures { OnOk result (text.new.items ≡ text.old.items
-        ++ reason_words page.now.names.now page.now.rows.now chain.now) }
-{
-    push_text(text, b"; took part because of")?;
-    push_chain(text, page, chain)
-}
-
-// Gathers the messages of a chain.
-fn push_chain(text: &mut Vec<u8>, page: &Page<'_>, chain: &[MsgNo]) -> Result<(), Memory>
-    ensures { OnOk result (text.new.items ≡ text.old.items
-        ++ flat_map (chain_word page.now.names.now page.now.rows.now) chain.now) }
-{
-    for msg in chain {
-        push_chain_word(text, page, *msg)?;
-    }
-    Ok(())
-}
-
-// Gathers a message of a chain.
-fn push_chain_word(text: &mut Vec<u8>, page: &Page<'_>, msg: MsgNo) -> Result<(), Memory>
-    ensures { OnOk result (text.new.items ≡ text.old.items ++ chain_word page.now.names.now page.now.rows.now msg) }
-{
-    push_parts(text, &[Part::Text(b" "), Part::Message(msg)])?;
-    push_ends(text, page, row_of(page.rows, msg))
+    let row = row_of(page.rows, msg);
+    write!(text, " {msg}")?;
+    push_ends(text, page, row)
 }
 
 // The row of the number of a message.
@@ -116,9 +117,10 @@ fn row_of(rows: &[Event], msg: MsgNo) -> Option<Event>
     rows.get(msg.index()).copied()
 }
 
-// Gathers between whom a message went that this row sent, where there is such a row.
-fn push_ends(text: &mut Vec<u8>, page: &Page<'_>, row: Option<Event>) -> Result<(), Memory>
-    ensures { OnOk result (text.new.items ≡ text.old.items ++ ends_of_message page.now.names.now row) }
+// Gathers between whom a message went that this row sent, if it sends one.
+fn push_ends(text: &mut String, page: &Page<'_>, row: Option<Event>) -> Result<(), Memory>
+    ensures { OnOk result (string_bytes text.new ≡ string_bytes text.old
+        ++ ends_of_message page.now.names.now row) }
 {
     match row {
         Some(row) => push_ends_of(text, page, row),
@@ -126,22 +128,23 @@ fn push_ends(text: &mut Vec<u8>, page: &Page<'_>, row: Option<Event>) -> Result<
     }
 }
 
-// Gathers between whom a message went that this row sent, if it sends one.
-fn push_ends_of(text: &mut Vec<u8>, page: &Page<'_>, row: Event) -> Result<(), Memory>
-    ensures { OnOk result (text.new.items ≡ text.old.items ++ ends_of_message page.now.names.now (Some row)) }
+// The same of this row.
+fn push_ends_of(text: &mut String, page: &Page<'_>, row: Event) -> Result<(), Memory>
+    ensures { OnOk result (string_bytes text.new ≡ string_bytes text.old
+        ++ ends_of_message page.now.names.now (Some row)) }
 {
     match row {
-        Event::Sent { p, to, .. } => push_parties(text, page.names, p, to),
+        Event::Sent { p, to, .. } => push_between(text, page, p, to),
         _ => Ok(()),
     }
 }
 
-// Gathers who sent a message, and to whom.
-fn push_parties(text: &mut Vec<u8>, names: &Names, p: ProcNo, to: ProcNo) -> Result<(), Memory>
-    ensures { OnOk result (text.new.items ≡ text.old.items ++ ends_between names.now p to) }
+// Gathers between whom a message went.
+fn push_between(text: &mut String, page: &Page<'_>, p: ProcNo, to: ProcNo) -> Result<(), Memory>
+    ensures { OnOk result (string_bytes text.new ≡ string_bytes text.old ++ ends_between page.now.names.now p to) }
 {
-    push_text(text, b":")?;
-    push_name_of(text, names, p)?;
-    push_text(text, b"&gt;")?;
-    push_name_of(text, names, to)
+    let from = page.name(p);
+    write!(text, ":{from}")?;
+    let to = page.name(to);
+    Ok(write!(text, "&gt;{to}")?)
 }

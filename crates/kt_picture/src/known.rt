@@ -1,6 +1,6 @@
 //! What is known at each row of the window.
 
-ghost use Rattle.std.specs.Prelude.{◌≡◌, ◌≤◌, ◌<◌, ◌^◌, ◌+◌, ◌++◌, ◌∷◌, [], ℕ, List, Some, Err, OnOk, OnErr, if◌then◌else◌, map, replicate, slice_index, slice_set};
+ghost use Rattle.std.specs.Prelude.{◌≡◌, ◌≤◌, ◌<◌, ◌^◌, ◌+◌, ◌++◌, ◌∷◌, [], ℕ, List, Some, Err, OnOk, OnErr, map, replicate, slice_index, slice_set};
 ghost use Rattle.std.specs.List.{range_with_len};
 ghost use Rattle.kt_spacetime.specs.declared.event.Event.{Event};
 ghost use Rattle.kt_cuts.specs.declared.rules.Rule.{Rule};
@@ -13,7 +13,7 @@ ghost use Rattle.kt_picture.specs.KnownAtRow.{KnownAtRow, seen_after, taken_afte
 ghost use Rattle.kt_picture.specs.Window.{end_of};
 ghost use Rattle.kt_picture.specs.KnownOf.{KnownOf};
 
-use crate::shown::{End, Shown};
+use crate::shown::{End, Shown, number_of};
 use kt_base::{InstNo, ProcNo};
 use kt_cuts::LegalFault;
 use kt_spacetime::Event;
@@ -154,26 +154,13 @@ fn places_after(walk: &Walk, row: &Event, taken: &[u32; 64], places: &[u32; 64])
         → result ≡ places_after (past rows) taken.now places.now row.now }
 {
     match *row {
-        Event::Decided { inst, commit, .. } => promoted_if(walk, inst, commit, taken, places),
+        Event::Decided {
+            inst,
+            commit: true,
+            ..
+        } => promoted(walk, inst, taken, places),
+        Event::Decided { commit: false, .. } => *places,
         _ => *places,
-    }
-}
-
-// The columns of permanent positions after the decision of an instance.
-fn promoted_if(
-    walk: &Walk,
-    inst: InstNo,
-    commit: bool,
-    taken: &[u32; 64],
-    places: &[u32; 64],
-) -> [u32; 64]
-    ensures { (rows : List Event) → WalkOf walk.now rows → result ≡ (if commit
-        then map (place_after (past rows) inst taken.now places.now) (range_with_len 0 64) else places.now) }
-{
-    if commit {
-        promoted(walk, inst, taken, places)
-    } else {
-        *places
     }
 }
 
@@ -189,14 +176,4 @@ fn promoted(walk: &Walk, inst: InstNo, taken: &[u32; 64], places: &[u32; 64]) ->
         }
     }
     after
-}
-
-/// The number of an instance.
-pub(crate) fn number_of(inst: Option<InstNo>) -> Option<u16>
-    ensures { result ≡ inst }
-{
-    match inst {
-        Some(inst) => Some(inst.get()),
-        None => None,
-    }
 }

@@ -16,13 +16,14 @@ ghost use Rattle.kt_picture.specs.declared.shown.CutMark.{CutMark};
 ghost use Rattle.kt_picture.specs.Arrows.{has_arrow, StaysReceived};
 ghost use Rattle.kt_picture.specs.Fates.{is_send_undone, has_no_receive};
 ghost use Rattle.kt_picture.specs.Places.{columns_before, IsLastPermanent, IsPermanentColumn, commits};
-ghost use Rattle.kt_picture.specs.Looks.{class_text, square, triangle};
+ghost use Rattle.kt_picture.specs.Looks.{class_text, outline_text, word_y};
 ghost use Rattle.kt_picture.specs.declared.looks.Look.TheVariants as look;
+ghost use Rattle.kt_picture.specs.declared.looks.Outline.TheVariants.{Square, Triangle};
 ghost use Rattle.kt_picture.specs.declared.legend.Sign.{Sign};
-ghost use Rattle.kt_picture.specs.Legend.{sign_if};
-ghost use Rattle.kt_picture.specs.Marks.{arrow_of, colour_for, column_of, fill_look, is_grey, look_of, stands_out};
-ghost use Rattle.kt_picture.specs.Picture.{new_cut};
-ghost use Rattle.kt_picture.specs.Shapes.{word_y};
+ghost use Rattle.kt_picture.specs.declared.legend.TheConstants.{SIGNS};
+ghost use Rattle.kt_picture.specs.Legend.{has_sign, signs_of};
+ghost use Rattle.kt_picture.specs.Layers.{cut_text};
+ghost use Rattle.kt_picture.specs.Marks.{arrow_of, colour_for, column_of, fill_look, is_crossed, is_grey, look_of, stands_out};
 ghost use Rattle.kt_picture.specs.View.{View};
 ghost use Rattle.kt_picture.specs.Window.{shown_of, cuts_of};
 
@@ -58,7 +59,7 @@ pub fn arrows_tell_messages()
     // Exactly where a message is received or dropped, or stands in transit at the window's end.
     ensures drawn { (view : View) (rows : List Event) (before : ℕ) (s : Shown) →
         Contains (shown_of rows before) s →
-        (arrow_of view s ≢ []) ↔ (has_arrow rows s.row s.event ≡ true) }
+        (arrow_of view s ≢ None) ↔ (has_arrow rows s.row s.event ≡ true) }
 
     // From the column of the row that sent it, or from the left end.
     ensures tail { (rows : List Event) (before : ℕ) (s : Shown) → Contains (shown_of rows before) s →
@@ -93,8 +94,8 @@ pub fn joinings_tell_decisions()
 
     // Filled exactly after a commit, and crossed exactly after an abort; else as where nothing is decided.
     ensures filled { (d : Option Bool) → (class_text (fill_look d) ≢ class_text (fill_look None)) ↔ (d ≡ Some true) }
-    ensures crossed_square { (d : Option Bool) → (square d ≢ square None) ↔ (d ≡ Some false) }
-    ensures crossed_triangle { (d : Option Bool) → (triangle d ≢ triangle None) ↔ (d ≡ Some false) }
+    ensures crossed_square { (d : Option Bool) → (outline_text (Square (is_crossed d)) ≢ outline_text (Square false)) ↔ (d ≡ Some false) }
+    ensures crossed_triangle { (d : Option Bool) → (outline_text (Triangle (is_crossed d)) ≢ outline_text (Triangle false)) ↔ (d ≡ Some false) }
 {}
 
 /// After each committed decision of the window there is one cut, through each process's permanent position there; it is drawn
@@ -106,7 +107,7 @@ pub fn cuts_are_permanent()
 
     ensures changes { (rows : List Event) (before j : ℕ) (c : CutMark) → slice_get (cuts_of rows before) j ≡ Some c →
         c.is_new ≡ not (bytes_eq (columns_before (replicate 64 0) (cuts_of rows before) j) c.columns) }
-    ensures drawn { (lanes : List ℕ) (c : CutMark) → (new_cut lanes c ≢ []) ↔ (c.is_new ≡ true) }
+    ensures drawn { (view : View) (c : CutMark) → (cut_text view c ≢ []) ↔ (c.is_new ≡ true) }
 
     // Each crosses a lane in the column of the row of the last permanent checkpoint, or at the left end.
     ensures through { (rows : List Event) (before : ℕ) (c : CutMark) → IsLegal rows →
@@ -152,6 +153,6 @@ pub fn words_stand_apart()
 
 /// The legend has a sign exactly where the picture has its mark.
 pub fn legend_tells_marks()
-    ensures { (has : Sign → Bool) (top place : ℕ) (sign : Sign) →
-        (sign_if has top place sign ≢ []) ↔ (has sign ≡ true) }
+    ensures { (view : View) (sign : Sign) → Contains SIGNS sign →
+        Contains (signs_of view) sign ↔ (has_sign view sign ≡ true) }
 {}

@@ -1,22 +1,19 @@
 //! A run as a picture: the space-time diagram of some rows of a log, as one SVG document.
 //!
-//! **What to change where:** the whole `drawing.rt`; row by row beside a walk `diagram.rt`, messages of the window
-//! `entry.rt`, as definitions `specs/Followed`, `specs/DiagramOf`; what each row shows, as definitions
+//! **What to change where:** row by row beside a walk, and the whole, `diagram.rt`, messages of the window `entry.rt`, as definitions `specs/Followed`, `specs/DiagramOf`; what each row shows, as definitions
 //! `specs/KnownAtRow`, `specs/Fates`, `specs/Window`, as code `known.rt`, `fates.rt`, `window.rt`; lanes `lanes.rt`;
-//! a text as a list of parts `parts.rt`; how marks look `looks.rt`, `style.rt`, where they stand `shapes.rt`; the
-//! marks of rows `marks.rt`, `figures.rt`, the words beside them `words.rt`; layers `layers.rt`; the legend
-//! `legend.rt`; the text of a row `record.rt`; the row that breaks a rule `breach.rt`; what certificates tell
-//! `evidence.rt`, which messages are in chains `links.rt`; texts of others `escaping.rt`.
+//! which marks show a row `rows.rt`, as definitions `specs/Marks`; the marks and their texts `mark.rt`, the words in
+//! them `words.rt`, how they look and where they stand `looks.rt`, `style.rt`, as definitions `specs/Texts`,
+//! `specs/Looks`; layers `layers.rt`; the legend `legend.rt`; the row that breaks a rule `breach.rt`; what certificates
+//! tell `evidence.rt`, which messages are in chains `links.rt`; texts of others `escaping.rt`.
 #![tactic(auto)]
 
 mod breach;
 mod diagram;
-mod drawing;
 mod entry;
 mod escaping;
 mod evidence;
 mod fates;
-mod figures;
 mod items;
 mod known;
 mod lanes;
@@ -25,11 +22,9 @@ mod layers;
 mod legend;
 mod links;
 mod looks;
-mod marks;
+mod mark;
 mod page;
-mod parts;
-mod record;
-mod shapes;
+mod rows;
 mod shown;
 mod style;
 mod window;
@@ -37,7 +32,6 @@ mod words;
 
 pub use breach::{Breach, caption};
 pub use diagram::{Diagram, Sheet};
-pub use drawing::picture;
 pub use escaping::escaped_has_no_mark;
 pub use evidence::Evidence;
 pub use laws::{

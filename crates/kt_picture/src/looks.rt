@@ -1,7 +1,9 @@
-//! How marks look: their classes, and their outlines.
+//! How marks look, and where they stand.
 
 ghost use Rattle.std.specs.Prelude.{◌≡◌};
-ghost use Rattle.kt_picture.specs.Looks.{class_text, outline_text, square, triangle, diamond, way};
+ghost use Rattle.kt_picture.specs.Looks.{shape, x_of, y_of, word_y};
+
+use std::fmt;
 
 /// The class of a mark, as the style sheet names it.
 #[derive(Clone, Copy)]
@@ -41,46 +43,58 @@ pub(crate) enum Look {
     Full,
     /// A permanent cut.
     Cut,
-    /// The number of a row.
-    Number,
-    /// The name of an instance.
-    Instance,
-    /// Why a process did not do what it was asked.
-    Cause,
-    /// The number and the body of a message.
-    Label,
 }
 
-impl Look {
-    /// The class by name.
-    pub(crate) fn class(self) -> &'static [u8]
-        ensures { result.now ≡ class_text self }
-    {
+impl fmt::Display for Look {
+    ghost use Rattle.std.specs.Prelude.{Some};
+    ghost use Rattle.kt_picture.specs.Looks.{class_text};
+
+    ghost output = { λ look. Some (class_text look) };
+
+    fn fmt<W: fmt::Write>(&self, f: &mut fmt::Formatter<W>) -> fmt::Result {
         match self {
-            Look::Up => b"lane",
-            Look::Down => b"lane down",
-            Look::Bar => b"in",
-            Look::Message => b"m",
-            Look::Unsent => b"m gone",
-            Look::Unreceived => b"m back",
-            Look::Vanished => b"m gone back",
-            Look::Linked => b"m link",
-            Look::Orphan => b"m orphan",
-            Look::Way => b"m way",
-            Look::Dot => b"dot",
-            Look::PaleDot => b"dot pale",
-            Look::Tick => b"open",
-            Look::PaleTick => b"open faint",
-            Look::Dropped => b"x",
-            Look::Failed => b"bolt",
-            Look::Refused => b"w",
-            Look::Open => b"f",
-            Look::Full => b"f full",
-            Look::Cut => b"cut",
-            Look::Number => b"num",
-            Look::Instance => b"inst",
-            Look::Cause => b"bad",
-            Look::Label => b"say",
+            Look::Up => write!(f, "lane"),
+            Look::Down => write!(f, "lane down"),
+            Look::Bar => write!(f, "in"),
+            Look::Message => write!(f, "m"),
+            Look::Unsent => write!(f, "m gone"),
+            Look::Unreceived => write!(f, "m back"),
+            Look::Vanished => write!(f, "m gone back"),
+            Look::Linked => write!(f, "m link"),
+            Look::Orphan => write!(f, "m orphan"),
+            Look::Way => write!(f, "m way"),
+            Look::Dot => write!(f, "dot"),
+            Look::PaleDot => write!(f, "dot pale"),
+            Look::Tick => write!(f, "open"),
+            Look::PaleTick => write!(f, "open faint"),
+            Look::Dropped => write!(f, "x"),
+            Look::Failed => write!(f, "bolt"),
+            Look::Refused => write!(f, "w"),
+            Look::Open => write!(f, "f"),
+            Look::Full => write!(f, "f full"),
+            Look::Cut => write!(f, "cut"),
+        }
+    }
+}
+
+/// How a mark is painted: its class, and the instance whose colour it has, one of six.
+#[derive(Clone, Copy)]
+pub(crate) struct Paint {
+    pub(crate) look: Look,
+    pub(crate) inst: Option<u16>,
+}
+
+impl fmt::Display for Paint {
+    ghost use Rattle.std.specs.Prelude.{Some};
+    ghost use Rattle.kt_picture.specs.Looks.{paint_text};
+
+    ghost output = { λ p. Some (paint_text p.look p.inst) };
+
+    fn fmt<W: fmt::Write>(&self, f: &mut fmt::Formatter<W>) -> fmt::Result {
+        let look = self.look;
+        match self.inst {
+            Some(inst) => write!(f, "{look} c{}", inst % 6),
+            None => write!(f, "{look}"),
         }
     }
 }
@@ -105,69 +119,141 @@ pub(crate) enum Outline {
     /// A process closes.
     Ending,
     /// A checkpoint, crossed after an abort.
-    Square(Option<bool>),
+    Square { crossed: bool },
     /// A process is ready to roll back; crossed after an abort.
-    Triangle(Option<bool>),
+    Triangle { crossed: bool },
     /// A decision, crossed for an abort.
-    Diamond(bool),
+    Diamond { crossed: bool },
     /// The way of a message in transit, down or else up.
-    Way(bool),
+    Way { down: bool },
+    /// The way of a message to where it is taken.
+    To(Place),
 }
 
-impl Outline {
-    /// The outline as a path.
-    pub(crate) fn path(self) -> &'static [u8]
-        ensures { result.now ≡ outline_text self }
-    {
-        match self {
-            Outline::Dot => b"m-3 0a3 3 0 1 0 6 0a3 3 0 1 0 -6 0",
-            Outline::Tick => b"m0 -4v8",
-            Outline::Cross => b"m-5 -5l10 10m0 -10l-10 10",
-            Outline::Bolt => b"m3 -11l-9 12h5l-2 10l9 -12h-5z",
-            Outline::Ban => b"m-6 0a6 6 0 1 0 12 0a6 6 0 1 0 -12 0m2 -4l8 8",
-            Outline::Line => b"m-12 0h24",
-            Outline::Beginning => b"m-5 0h10",
-            Outline::Ending => b"m0 -5v10",
-            Outline::Square(decision) => square(decision),
-            Outline::Triangle(decision) => triangle(decision),
-            Outline::Diamond(commit) => diamond(commit),
-            Outline::Way(down) => way(down),
+impl fmt::Display for Outline {
+    ghost use Rattle.std.specs.Prelude.{Some};
+    ghost use Rattle.kt_picture.specs.Looks.{outline_text};
+
+    ghost output = { λ outline. Some (outline_text outline) };
+
+    fn fmt<W: fmt::Write>(&self, f: &mut fmt::Formatter<W>) -> fmt::Result {
+        match *self {
+            Outline::Dot => write!(f, "m-3 0a3 3 0 1 0 6 0a3 3 0 1 0 -6 0"),
+            Outline::Tick => write!(f, "m0 -4v8"),
+            Outline::Cross => write!(f, "m-5 -5l10 10m0 -10l-10 10"),
+            Outline::Bolt => write!(f, "m3 -11l-9 12h5l-2 10l9 -12h-5z"),
+            Outline::Ban => write!(f, "m-6 0a6 6 0 1 0 12 0a6 6 0 1 0 -12 0m2 -4l8 8"),
+            Outline::Line => write!(f, "m-12 0h24"),
+            Outline::Beginning => write!(f, "m-5 0h10"),
+            Outline::Ending => write!(f, "m0 -5v10"),
+            Outline::Square { crossed: false } => write!(f, "m-7 -7h14v14h-14z"),
+            Outline::Square { crossed: true } => write!(f, "m-7 -7h14v14h-14zl14 14"),
+            Outline::Triangle { crossed: false } => write!(f, "m7 -8v16l-15 -8z"),
+            Outline::Triangle { crossed: true } => write!(f, "m7 -8v16l-15 -8zm-10 3l8 10"),
+            Outline::Diamond { crossed: false } => write!(f, "m0 -8l8 8l-8 8l-8 -8z"),
+            Outline::Diamond { crossed: true } => write!(f, "m0 -8l8 8l-8 8l-8 -8zm-4 4l8 8"),
+            Outline::Way { down: true } => write!(f, "l9 11"),
+            Outline::Way { down: false } => write!(f, "l9 -11"),
+            Outline::To(to) => write!(f, "L{to}"),
         }
     }
 }
 
-fn square(decision: Option<bool>) -> &'static [u8]
-    ensures { result.now ≡ square decision }
-{
-    match decision {
-        Some(false) => b"m-7 -7h14v14h-14zl14 14",
-        Some(true) => b"m-7 -7h14v14h-14z",
-        None => b"m-7 -7h14v14h-14z",
+/// What is drawn, and how it is painted.
+#[derive(Clone, Copy)]
+pub(crate) struct Figure {
+    pub(crate) paint: Paint,
+    pub(crate) outline: Outline,
+}
+
+/// A figure at a place.
+#[derive(Clone, Copy)]
+pub(crate) struct Path {
+    pub(crate) from: Place,
+    pub(crate) figure: Figure,
+}
+
+impl fmt::Display for Path {
+    ghost use Rattle.std.specs.Prelude.{Some};
+    ghost use Rattle.kt_picture.specs.Looks.{path_text};
+
+    ghost output = { λ path. Some (path_text path) };
+
+    fn fmt<W: fmt::Write>(&self, f: &mut fmt::Formatter<W>) -> fmt::Result {
+        let from = self.from;
+        let paint = self.figure.paint;
+        let outline = self.figure.outline;
+        write!(f, "<path class='{paint}' d='M{from}{outline}'/>")
     }
 }
 
-fn triangle(decision: Option<bool>) -> &'static [u8]
-    ensures { result.now ≡ triangle decision }
+/// A shape of a class, in an instance's colour or in none.
+pub(crate) fn shape(look: Look, inst: Option<u16>, outline: Outline) -> Figure
+    ensures { result ≡ shape look inst outline }
 {
-    match decision {
-        Some(false) => b"m7 -8v16l-15 -8zm-10 3l8 10",
-        Some(true) => b"m7 -8v16l-15 -8z",
-        None => b"m7 -8v16l-15 -8z",
+    let paint = Paint { look, inst };
+    Figure { paint, outline }
+}
+
+/// Where a column is.
+pub(crate) fn x_of(column: u32) -> u64
+    ensures { result ≡ x_of column }
+{
+    136 + 26 * u64::from(column)
+}
+
+/// Where a lane is.
+pub(crate) fn y_of(lane: u8) -> u64
+    ensures { result ≡ y_of lane }
+{
+    90 + 64 * u64::from(lane)
+}
+
+/// Where a column crosses a lane.
+#[derive(Clone, Copy)]
+pub(crate) struct Place {
+    pub(crate) column: u32,
+    pub(crate) lane: u8,
+}
+
+impl fmt::Display for Place {
+    ghost use Rattle.std.specs.Prelude.{Some};
+    ghost use Rattle.kt_picture.specs.Looks.{place_text};
+
+    ghost output = { λ at. Some (place_text at.column at.lane) };
+
+    fn fmt<W: fmt::Write>(&self, f: &mut fmt::Formatter<W>) -> fmt::Result {
+        write!(f, "{} {}", x_of(self.column), y_of(self.lane))
     }
 }
 
-fn diamond(commit: bool) -> &'static [u8]
-    ensures { result.now ≡ diamond commit }
+/// Where a word stands: at a place, below or above its lane.
+#[derive(Clone, Copy)]
+pub(crate) struct Spot {
+    pub(crate) at: Place,
+    pub(crate) below: bool,
+}
+
+impl fmt::Display for Spot {
+    ghost use Rattle.std.specs.Prelude.{Some};
+    ghost use Rattle.kt_picture.specs.Looks.{spot_text};
+
+    ghost output = { λ s. Some (spot_text s) };
+
+    fn fmt<W: fmt::Write>(&self, f: &mut fmt::Formatter<W>) -> fmt::Result {
+        let y = word_y(self.at.lane, self.below, self.at.column);
+        write!(f, "x='{}' y='{y}' dx='4", x_of(self.at.column))
+    }
+}
+
+// In one of four lines between two lanes, the next column's in the next line.
+fn word_y(lane: u8, below: bool, column: u32) -> u64
+    ensures { result ≡ word_y lane below column }
 {
-    if commit {
-        b"m0 -8l8 8l-8 8l-8 -8z"
+    let line = if below {
+        y_of(lane) + 20
     } else {
-        b"m0 -8l8 8l-8 8l-8 -8zm-4 4l8 8"
-    }
-}
-
-fn way(down: bool) -> &'static [u8]
-    ensures { result.now ≡ way down }
-{
-    if down { b"l9 11" } else { b"l9 -11" }
+        y_of(lane) - 44
+    };
+    line + 10 * (u64::from(column) % 4)
 }

@@ -1,5 +1,7 @@
 //! What a row of the window shows.
 
+ghost use Rattle.std.specs.Prelude.{◌≡◌};
+
 use kt_base::{InstNo, ProcNo};
 use kt_spacetime::Event;
 
@@ -46,4 +48,14 @@ pub(crate) struct CutMark {
     pub(crate) columns: [u32; 64],
     /// Whether it differs from the one before.
     pub(crate) is_new: bool,
+}
+
+/// The number of an instance.
+pub(crate) fn number_of(inst: Option<InstNo>) -> Option<u16>
+    ensures { result ≡ inst }
+{
+    match inst {
+        Some(inst) => Some(inst.get()),
+        None => None,
+    }
 }

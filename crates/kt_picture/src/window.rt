@@ -1,6 +1,6 @@
 //! What the window of a picture shows.
 
-ghost use Rattle.std.specs.Prelude.{◌≡◌, ◌<◌, ◌+◌, ◌++◌, ◌∷◌, [], List, IfOk, OnOk, if◌then◌else◌, not, bytes_eq, length, drop, map};
+ghost use Rattle.std.specs.Prelude.{◌≡◌, ◌<◌, ◌+◌, ◌++◌, [], List, IfOk, OnOk, length, drop, map};
 ghost use Rattle.kt_picture.specs.Followed.{AreFollowed, told_rows};
 ghost use Rattle.kt_picture.specs.KnownAtRow.{KnownAtRow, cut_in};
 ghost use Rattle.kt_picture.specs.KnownOf.{KnownOf};
@@ -14,7 +14,7 @@ use crate::fates::told;
 use crate::items::push_item;
 use crate::known::Known;
 use crate::shown::{CutMark, End, Shown};
-use kt_base::{InstNo, Memory, ProcNo};
+use kt_base::{Memory, ProcNo};
 use kt_spacetime::Event;
 use kt_walk::Walk;
 use std::alloc::Global;
@@ -95,32 +95,23 @@ pub(crate) fn push_cut(
     ensures { OnOk result (cuts.new.items ≡ cuts.old.items ++ cut_in before.now places.now row.now) }
 {
     match *row {
-        Event::Decided { inst, commit, .. } => push_cut_if(cuts, before, places, inst, commit),
+        Event::Decided {
+            inst,
+            commit: true,
+            ..
+        } => {
+            let is_new = !(*before == *places);
+            let columns = *places;
+            push_item(
+                cuts,
+                CutMark {
+                    inst,
+                    columns,
+                    is_new,
+                },
+            )
+        }
+        Event::Decided { commit: false, .. } => Ok(()),
         _ => Ok(()),
-    }
-}
-
-// Adds the permanent cut after the commit of an instance.
-fn push_cut_if(
-    cuts: &mut Vec<CutMark>,
-    before: &[u32; 64],
-    places: &[u32; 64],
-    inst: InstNo,
-    commit: bool,
-) -> Result<(), Memory>
-    ensures { OnOk result (cuts.new.items ≡ cuts.old.items
-        ++ (if commit then record { inst = inst; columns = places.now; is_new = not (bytes_eq before.now places.now) } ∷ [] else [])) }
-{
-    if commit {
-        push_item(
-            cuts,
-            CutMark {
-                inst,
-                columns: *places,
-                is_new: !(*before == *places),
-            },
-        )
-    } else {
-        Ok(())
     }
 }

@@ -1,241 +1,171 @@
-//! The words beside marks.
+//! The words of a picture: names, the texts of rows, and what stands beside marks.
 
-ghost use Rattle.std.specs.Prelude.{◌≡◌, ◌++◌, Some, None, OnOk, slice_get, if◌then◌else◌};
-ghost use Rattle.kt_picture.specs.Pages.{view_in};
-ghost use Rattle.kt_picture.specs.Words.{kind_letter, message_words, saying_text, length_fit, body_fit, body_sent, body_shown, saying_fit, body_of, label, word, word_at, word_place, word_text, row_number, number_at, words_of};
+ghost use Rattle.std.specs.Prelude.{◌≡◌, Some, None, IfOk, IfSome, IfNone, slice_get, string_bytes};
+ghost use Rattle.kt_plan.specs.Names.{AreNames};
+ghost use Rattle.kt_log_text.specs.Spelling.{spelling};
+ghost use Rattle.kt_text.specs.Writing.{joined};
+ghost use Rattle.kt_picture.specs.Texts.{body_fit, rule_name};
 
-use crate::figures::{Saying, Word};
-use crate::looks::Look;
-use crate::page::Page;
-use crate::parts::{Part, push_parts, push_text};
-use crate::shapes::word_y;
-use crate::shown::Shown;
-use kt_base::{Kind, Memory, MsgNo, ProcNo};
+use crate::looks::Spot;
+use kt_base::{Cause, InstNo, Kind, Memory, ProcNo};
+use kt_cuts::Rule;
+use kt_log_text::push_fields;
+use kt_plan::Names;
 use kt_spacetime::Event;
+use std::alloc::Global;
+use std::fmt;
 
-/// Gathers the words of a row: its number, at each fifth column, and the word beside its mark.
-pub(crate) fn push_words_of(text: &mut Vec<u8>, page: &Page<'_>, s: &Shown) -> Result<(), Memory>
-    ensures { OnOk result (text.new.items ≡ text.old.items ++ words_of (view_in page.now) s.now) }
-{
-    push_number_at(text, s.row, s.column)?;
-    let lane = page.lanes.of(s.event.process());
-    push_word(text, lane, s.column, word_at(page, s, s.event))
+/// The name of a process, or its number where it has none.
+#[derive(Clone, Copy)]
+pub(crate) struct Name<'a> {
+    pub(crate) names: &'a Names,
+    pub(crate) p: ProcNo,
 }
 
-// Gathers the number of the row of each fifth column.
-fn push_number_at(text: &mut Vec<u8>, row: u32, column: u32) -> Result<(), Memory>
-    ensures { OnOk result (text.new.items ≡ text.old.items ++ number_at row column) }
-{
-    if column % 5 == 0 {
-        push_row_number(text, row, column)
-    } else {
-        Ok(())
-    }
-}
+impl fmt::Display for Name<'_> {
+    ghost use Rattle.std.specs.Prelude.{Some};
+    ghost use Rattle.kt_picture.specs.Texts.{name_text};
 
-// Gathers the number of a row, above the lanes.
-fn push_row_number(text: &mut Vec<u8>, row: u32, column: u32) -> Result<(), Memory>
-    ensures { OnOk result (text.new.items ≡ text.old.items ++ row_number row column) }
-{
-    push_parts(
-        text,
-        &[
-            Part::Text(b"<text class='top' x='"),
-            Part::X(column),
-            Part::Text(b"' y='20'>"),
-            Part::Row(row),
-            Part::Text(b"</text>\n"),
-        ],
-    )
-}
+    ghost output = { λ name. Some (name_text name.names.now name.p) };
 
-// Gathers a word of a lane at a column, where there is one.
-fn push_word(text: &mut Vec<u8>, lane: u8, column: u32, word: Option<Word>) -> Result<(), Memory>
-    ensures { OnOk result (text.new.items ≡ text.old.items ++ word_text lane column word) }
-{
-    match word {
-        Some(word) => push_word_of(text, lane, column, &word),
-        None => Ok(()),
-    }
-}
-
-// Gathers a word of a lane at a column.
-fn push_word_of(text: &mut Vec<u8>, lane: u8, column: u32, word: &Word) -> Result<(), Memory>
-    ensures { OnOk result (text.new.items ≡ text.old.items ++ word_text lane column (Some word.now)) }
-{
-    push_word_place(text, lane, column, word)?;
-    push_saying(text, &word.saying)?;
-    push_text(text, b"</text>\n")
-}
-
-// Gathers how a word begins.
-fn push_word_place(text: &mut Vec<u8>, lane: u8, column: u32, word: &Word) -> Result<(), Memory>
-    ensures { OnOk result (text.new.items ≡ text.old.items ++ word_place lane column word.now) }
-{
-    push_parts(
-        text,
-        &[
-            Part::Text(b"<text class='"),
-            Part::Class(word.look),
-            Part::Text(b"' x='"),
-            Part::X(column),
-            Part::Text(b"' y='"),
-            Part::Number(word_y(lane, word.below, column)),
-            Part::Text(b"' dx='4"),
-            Part::Text(saying_fit(&word.saying)),
-            Part::Text(b"'>"),
-        ],
-    )
-}
-
-// How a word is set: where its body is long, no wider than four columns.
-fn saying_fit(saying: &Saying) -> &'static [u8]
-    ensures { result.now ≡ saying_fit saying.now }
-{
-    match *saying {
-        Saying::Message(_, body) => body_fit(body),
-        _ => b"",
-    }
-}
-
-fn body_fit(body: Option<i64>) -> &'static [u8]
-    ensures { result.now ≡ body_fit body }
-{
-    match body {
-        Some(body) => length_fit(body.unsigned_abs()),
-        None => b"",
-    }
-}
-
-fn length_fit(size: u64) -> &'static [u8]
-    ensures { result.now ≡ length_fit size }
-{
-    if LONGEST_BODY < size {
-        b"' textLength='96' lengthAdjust='spacingAndGlyphs"
-    } else {
-        b""
-    }
-}
-
-// A body beyond this one has more than eight letters.
-const LONGEST_BODY: u64 = 9_999_999;
-
-// Gathers what a word says.
-fn push_saying(text: &mut Vec<u8>, saying: &Saying) -> Result<(), Memory>
-    ensures { OnOk result (text.new.items ≡ text.old.items ++ saying_text saying.now) }
-{
-    match *saying {
-        Saying::Instance(kind, inst) => push_parts(
-            text,
-            &[Part::Text(kind_letter(kind)), Part::Instance(inst)],
-        ),
-        Saying::Row(number) => push_parts(text, &[Part::Row(number)]),
-        Saying::Why(cause) => push_parts(text, &[Part::Why(cause)]),
-        Saying::Message(msg, body) => push_message(text, msg, body),
-    }
-}
-
-// Gathers the number of a message, with its body where that is known.
-fn push_message(text: &mut Vec<u8>, msg: u32, body: Option<i64>) -> Result<(), Memory>
-    ensures { OnOk result (text.new.items ≡ text.old.items ++ message_words msg body) }
-{
-    match body {
-        Some(body) => push_parts(text, &[Part::Row(msg), Part::Text(b": "), Part::Body(body)]),
-        None => push_parts(text, &[Part::Row(msg)]),
-    }
-}
-
-// The letter of a kind of instance.
-fn kind_letter(kind: Kind) -> &'static [u8]
-    ensures { result.now ≡ kind_letter kind }
-{
-    match kind {
-        Kind::Checkpoint => b"C",
-        Kind::Rollback => b"R",
-    }
-}
-
-// The word beside the mark of a row.
-fn word_at(page: &Page<'_>, s: &Shown, event: Event) -> Option<Word>
-    ensures { result ≡ word_at (view_in page.now) s.now event }
-{
-    match event {
-        Event::Sent { p, to, body } => way_label(page, s, p, to, body),
-        Event::Received { p, from, msg } => label(page, p, from, msg.get(), body_of(page, msg)),
-        Event::Dropped { p, from, msg } => label(page, p, from, msg.get(), body_of(page, msg)),
-        Event::Began { inst, kind, .. } => {
-            Some(word(Look::Instance, false, Saying::Instance(kind, inst)))
+    // A name has no letter that is read as a mark.
+    #[tactic(auto, using(crate::proofs::EscapeFacts::name_at, crate::proofs::EscapeFacts::number_at))]
+    fn fmt<W: fmt::Write>(&self, f: &mut fmt::Formatter<W>) -> fmt::Result {
+        match name_in(self.names, self.p) {
+            Some(name) => write!(f, "{name}"),
+            None => write!(f, "{}", self.p),
         }
-        Event::Decided { .. } => Some(word(Look::Number, true, Saying::Row(s.row))),
-        Event::Unwilling { cause, .. } => Some(word(Look::Cause, true, Saying::Why(cause))),
-        Event::Refused { cause, .. } => Some(word(Look::Cause, true, Saying::Why(cause))),
-        _ => None,
     }
 }
 
-fn word(look: Look, below: bool, saying: Saying) -> Word
-    ensures { result ≡ word look below saying }
+// The name that a process has.
+fn name_in(names: &Names, p: ProcNo) -> Option<&str>
+    ensures found { IfSome result (λ name. slice_get names.now p ≡ Some name.now) }
+    ensures none { IfNone result (slice_get names.now p ≡ None) }
+    ensures names { AreNames names.now }
 {
-    Word {
-        look,
-        below,
-        saying,
-    }
-}
-
-// The word beside the arrow of a message in transit that a row sends.
-fn way_label(page: &Page<'_>, s: &Shown, p: ProcNo, to: ProcNo, body: i64) -> Option<Word>
-    ensures { result ≡ (if s.now.is_in_transit then label (view_in page.now) p to s.now.row (Some body) else None) }
-{
-    if s.is_in_transit {
-        label(page, p, to, s.row, Some(body))
-    } else {
-        None
-    }
-}
-
-// The word beside the arrow of a message between a process and another one, on the other one's side.
-fn label(page: &Page<'_>, p: ProcNo, other: ProcNo, msg: u32, body: Option<i64>) -> Option<Word>
-    ensures { result ≡ label (view_in page.now) p other msg body }
-{
-    if page.columns <= MOST_LABELLED {
-        let below = page.lanes.of(p) < page.lanes.of(other);
-        Some(word(Look::Label, below, Saying::Message(msg, body)))
-    } else {
-        None
-    }
-}
-
-// How many columns a picture has at most whose messages have words.
-const MOST_LABELLED: u32 = 64;
-
-// The body of a message that a row of the window sent.
-fn body_of(page: &Page<'_>, msg: MsgNo) -> Option<i64>
-    ensures { result ≡ body_of (view_in page.now) msg }
-{
-    let msg = msg.get();
-    if page.before < msg {
-        body_shown(page.shown, (msg - page.before - 1) as usize)
-    } else {
-        None
-    }
-}
-
-// The body of the message that the row at this place sends.
-fn body_shown(shown: &[Shown], place: usize) -> Option<i64>
-    ensures { result ≡ body_shown (slice_get shown.now place) }
-{
-    match shown.get(place) {
-        Some(s) => body_sent(s.event),
+    match names.list().get(p.index()) {
+        Some(name) => Some(name.as_str()),
         None => None,
     }
 }
 
-fn body_sent(event: Event) -> Option<i64>
-    ensures { result ≡ body_sent event }
+/// The fields of a row, as a log spells them.
+pub(crate) fn fields_of(alloc: Global, row: Event) -> Result<String, Memory>
+    ensures { IfOk result (λ t. string_bytes t ≡ joined (spelling row)) }
 {
-    match event {
-        Event::Sent { body, .. } => Some(body),
-        _ => None,
+    let mut fields = Vec::new(alloc);
+    push_fields(&mut fields, row)?;
+    match String::from_utf8(fields) {
+        Ok(fields) => Ok(fields),
+        Err(_) => Err(Memory),
+    }
+}
+
+/// Why a process did not do what it was asked.
+#[derive(Clone, Copy)]
+pub(crate) struct Why(pub(crate) Cause);
+
+impl fmt::Display for Why {
+    ghost use Rattle.std.specs.Prelude.{Some};
+    ghost use Rattle.kt_log_text.specs.Spelling.{cause_word};
+
+    ghost output = { λ why. Some (cause_word why.0) };
+
+    fn fmt<W: fmt::Write>(&self, f: &mut fmt::Formatter<W>) -> fmt::Result {
+        match self.0 {
+            Cause::Busy(inst) => write!(f, "busy-{inst}"),
+            Cause::Down => write!(f, "down"),
+            Cause::NoSave => write!(f, "nosave"),
+        }
+    }
+}
+
+/// A rule by number and name.
+#[derive(Clone, Copy)]
+pub(crate) struct RuleName(pub(crate) Rule);
+
+impl fmt::Display for RuleName {
+    ghost use Rattle.std.specs.Prelude.{Some};
+    ghost use Rattle.kt_picture.specs.Texts.{rule_label};
+
+    ghost output = { λ name. Some (rule_label name.0) };
+
+    fn fmt<W: fmt::Write>(&self, f: &mut fmt::Formatter<W>) -> fmt::Result {
+        write!(f, "rule {}, {}", self.0, rule_name(self.0))
+    }
+}
+
+fn rule_name(rule: Rule) -> &'static str
+    ensures { result.now ≡ rule_name rule }
+{
+    match rule {
+        Rule::Numbers => "numbers",
+        Rule::Message => "message",
+        Rule::Order => "order",
+        Rule::Sending => "sending",
+        Rule::Receiving => "receiving",
+        Rule::Joining => "joining",
+        Rule::Deciding => "deciding",
+        Rule::Closing => "closing",
+        Rule::Causes => "causes",
+    }
+}
+
+/// What a word beside a mark or an arrow says.
+#[derive(Clone, Copy)]
+pub(crate) enum Saying {
+    /// The name of an instance.
+    Instance(Kind, InstNo),
+    /// The number of a row.
+    Row(u32),
+    /// Why a process did not do what it was asked.
+    Why(Cause),
+    /// The number of a message, and its body where that is known.
+    Message(u32, Option<i64>),
+}
+
+/// A word, and where it stands.
+#[derive(Clone, Copy)]
+pub(crate) struct Word {
+    pub(crate) spot: Spot,
+    pub(crate) saying: Saying,
+}
+
+impl fmt::Display for Word {
+    ghost use Rattle.std.specs.Prelude.{Some};
+    ghost use Rattle.kt_picture.specs.Texts.{word_text};
+
+    ghost output = { λ word. Some (word_text word.spot word.saying) };
+
+    fn fmt<W: fmt::Write>(&self, f: &mut fmt::Formatter<W>) -> fmt::Result {
+        let spot = self.spot;
+        match self.saying {
+            Saying::Instance(Kind::Checkpoint, inst) => {
+                writeln!(f, "<text class='inst' {spot}'>C{inst}</text>")
+            }
+            Saying::Instance(Kind::Rollback, inst) => {
+                writeln!(f, "<text class='inst' {spot}'>R{inst}</text>")
+            }
+            Saying::Row(number) => writeln!(f, "<text class='num' {spot}'>{number}</text>"),
+            Saying::Why(cause) => writeln!(f, "<text class='bad' {spot}'>{}</text>", Why(cause)),
+            Saying::Message(msg, None) => writeln!(f, "<text class='say' {spot}'>{msg}</text>"),
+            Saying::Message(msg, Some(body)) => {
+                let fit = body_fit(body);
+                writeln!(f, "<text class='say' {spot}{fit}'>{msg}: {body}</text>")
+            }
+        }
+    }
+}
+
+// How a word with a body is set: where that is long, no wider than four columns.
+fn body_fit(body: i64) -> &'static str
+    ensures { result.now ≡ body_fit body }
+{
+    // A body beyond this one has more than eight letters.
+    if body.unsigned_abs() > 9_999_999 {
+        "' textLength='96' lengthAdjust='spacingAndGlyphs"
+    } else {
+        ""
     }
 }

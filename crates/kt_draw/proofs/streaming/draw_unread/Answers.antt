@@ -1,7 +1,8 @@
 use Rattle.std.proofs.lemmas.Result.{err_from_is_err_and}
 use Rattle.kt_log_text.proofs.GatherFacts.{at_end, gathered_to_fault}
 use Rattle.kt_draw.proofs.BytesRead.{rows_undrawn, text_refused}
-use Rattle.kt_draw.proofs.Fronts.{ok_weaker}
+use Rattle.std.proofs.Common.{rules, ◌≡◌, ◌∙◌, [], None, inr, length, refl}
+use Rattle.kt_draw.proofs.Fronts.{ok_weaker, told_drawn}
 use Rattle.kt_draw.proofs.Streams.{drawn_none, drawn_few, drawn_more, drawn_all}
 use Rattle.kt_draw.proofs.streaming.draw_unread.Goals as goal
 
@@ -27,8 +28,11 @@ returns-in_err-row-clause-fault g c = λ source e.
 pub returns-clause-picture : goal.returns-clause-picture
 returns-clause-picture g c = λ source e.
     let h = c.loop-row.invariant source e in
-    ok_weaker c.picture.result _ _ (c.picture.ensures.picture h.seen h.shows)
-    (λ text p. (h.seen, drawn_all c.loop-row.rows c.next.new.self c.loop-row.reading h (at_end c.in_ok-row.field-0 c.in_default.not-Some c.in_ok-row.ensures.steps), p))
+    let said = drawn_all c.loop-row.rows c.next.new.self c.loop-row.reading h (at_end c.in_ok-row.field-0 c.in_default.not-Some c.in_ok-row.ensures.steps) in
+    let made : c.as_slice.result.now ≡ c.in_ok-line.line.items = search rules in
+    let line = made ∙ c.in_ok-line.ensures c.args.span h.seen h.shows in
+    ok_weaker c.picture.result _ _ (c.picture.ensures.picture h.seen h.shows (inr refl))
+    (λ text p. (h.seen, said, told_drawn c.args.names.now c.args.span h.seen (length h.shows.kept) c.loop-row.reading.breach [] None None c.as_slice.result.now text.items h.shows.read line p))
 
 pub returns-clause-fault : goal.returns-clause-fault
 returns-clause-fault g c = λ source e.

@@ -1,6 +1,7 @@
 use Rattle.std.proofs.Common.{◌≡◌, ◌≢◌, ◌<◌, ◌≤◌, ◌+◌, ℕ, suc, Bool, true, false, List, [], refl, sym, subst, length, take, drop, arith}
 use Rattle.std.specs.Prelude.{slice_index, ◌↔◌}
-use Rattle.kt_picture.specs.Picture.{new_cut}
+use Rattle.kt_picture.specs.Layers.{cut_text}
+use Rattle.kt_picture.specs.View.{View}
 use Rattle.std.proofs.lemmas.List.{length-drop}
 use Rattle.std.proofs.lemmas.Option.{slice_get_within}
 use Rattle.kt_spacetime.specs.declared.event.Event.TheVariants.{Decided}
@@ -17,13 +18,13 @@ returns-clause-one_each c = λ rows before. cut_instances (seen_before (take bef
 pub returns-clause-changes : goal.returns-clause-changes
 returns-clause-changes c = λ rows before j cut at. cut_new (seen_before (take before rows)) (drop before rows) j cut at
 
-drawn : (lanes : List ℕ) (inst : ℕ) (columns : List ℕ) (b : Bool)
-    → (new_cut lanes (record { inst = inst; columns = columns; is_new = b }) ≢ []) ↔ (b ≡ true)
-drawn lanes inst columns true = (λ n. refl, λ h none. absurd (cc))
-drawn lanes inst columns false = (λ n. absurd (n refl), λ h. absurd (cc))
+drawn : (view : View) (inst : ℕ) (columns : List ℕ) (b : Bool)
+    → (cut_text view (record { inst = inst; columns = columns; is_new = b }) ≢ []) ↔ (b ≡ true)
+drawn view inst columns true = (λ n. refl, λ h none. absurd (cc))
+drawn view inst columns false = (λ n. absurd (n refl), λ h. absurd (cc))
 
 pub returns-clause-drawn : goal.returns-clause-drawn
-returns-clause-drawn c = λ lanes cut. drawn lanes cut.inst cut.columns cut.is_new
+returns-clause-drawn c = λ view cut. drawn view cut.inst cut.columns cut.is_new
 
 pub returns-clause-through : goal.returns-clause-through
 returns-clause-through c = λ rows before cut legal h.

@@ -6,8 +6,9 @@ use Rattle.kt_cuts.specs.Past.{past}
 use Rattle.kt_cuts.proofs.RowRules.{may_take, may_get_ready}
 use Rattle.kt_cuts.proofs.Traced.{next_unbroken}
 use Rattle.kt_picture.specs.Fates.{joined_decision}
-use Rattle.kt_picture.specs.Looks.{class_text, square, triangle}
-use Rattle.kt_picture.specs.Marks.{fill_look}
+use Rattle.kt_picture.specs.declared.looks.Outline.TheVariants.{Square, Triangle}
+use Rattle.kt_picture.specs.Looks.{class_text, outline_text}
+use Rattle.kt_picture.specs.Marks.{fill_look, is_crossed}
 use Rattle.kt_picture.specs.Window.{shown_of}
 use Rattle.kt_picture.proofs.ShownFacts.{place_in, shows_row}
 use Rattle.kt_picture.proofs.DecisionFacts.{decided_in_window}
@@ -48,18 +49,18 @@ filled (Some true) = (λ n. refl, λ e. λ same. absurd (cc))
 pub returns-clause-filled : goal.returns-clause-filled
 returns-clause-filled c = filled
 
-crossed_square : (d : Option Bool) → (square d ≢ square None) ↔ (d ≡ Some false)
+crossed_square : (d : Option Bool) → (outline_text (Square (is_crossed d)) ≢ outline_text (Square false)) ↔ (d ≡ Some false)
 crossed_square None = (λ n. absurd (n refl), λ e. absurd (undecided false e))
 crossed_square (Some true) = (λ n. absurd (n refl), λ e. absurd (cc))
-crossed_square (Some false) = (λ n. refl, λ e. apart (square (Some false)) (square None) (λ same. let h : ◌≡◌ {A = ℕ} 23 17 = same in absurd (omega arith)))
+crossed_square (Some false) = (λ n. refl, λ e. apart (outline_text (Square true)) (outline_text (Square false)) (λ same. let h : ◌≡◌ {A = ℕ} 23 17 = same in absurd (omega arith)))
 
 pub returns-clause-crossed_square : goal.returns-clause-crossed_square
 returns-clause-crossed_square c = crossed_square
 
-crossed_triangle : (d : Option Bool) → (triangle d ≢ triangle None) ↔ (d ≡ Some false)
+crossed_triangle : (d : Option Bool) → (outline_text (Triangle (is_crossed d)) ≢ outline_text (Triangle false)) ↔ (d ≡ Some false)
 crossed_triangle None = (λ n. absurd (n refl), λ e. absurd (undecided false e))
 crossed_triangle (Some true) = (λ n. absurd (n refl), λ e. absurd (cc))
-crossed_triangle (Some false) = (λ n. refl, λ e. apart (triangle (Some false)) (triangle None) (λ same. let h : ◌≡◌ {A = ℕ} 27 16 = same in absurd (omega arith)))
+crossed_triangle (Some false) = (λ n. refl, λ e. apart (outline_text (Triangle true)) (outline_text (Triangle false)) (λ same. let h : ◌≡◌ {A = ℕ} 27 16 = same in absurd (omega arith)))
 
 pub returns-clause-crossed_triangle : goal.returns-clause-crossed_triangle
 returns-clause-crossed_triangle c = crossed_triangle

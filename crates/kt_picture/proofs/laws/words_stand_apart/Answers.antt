@@ -1,5 +1,5 @@
 use Rattle.std.proofs.Common.{◌≢◌, ◌<◌, ◌+◌, ℕ, Bool, true, false, arith}
-use Rattle.kt_picture.specs.Shapes.{word_y}
+use Rattle.kt_picture.specs.Looks.{word_y}
 use Rattle.kt_picture.proofs.laws.words_stand_apart.Goals as goal
 
 apart : (lane c d : ℕ) (below : Bool) → c < d → d < c + 4 → word_y lane below c ≢ word_y lane below d

@@ -1,13 +1,16 @@
-use Rattle.std.proofs.Common.{◌∷◌, [], Some, codes}
+use Rattle.std.proofs.Common.{◌%◌, ◌∷◌, [], codes}
+use Rattle.std.specs.Fmt.{decimal}
 use Rattle.std.specs.List.{concat}
-use Rattle.kt_picture.specs.Shapes.{colour_text}
-use Rattle.kt_picture.proofs.Gathering.{gathered, same_piece, then_piece}
+use Rattle.std.specs.String.{string_bytes}
+use Rattle.kt_picture.proofs.Gathering.{same_piece, then_piece}
 use Rattle.kt_picture.proofs.layers.push_cut_line.Goals as goal
 
 pub returns : goal.returns
 returns c =
-    let t0 = c.args.text.now.items in
-    let t1 = c.push_parts.new.text.items in
-    let t2 = c.push_cut_points.new.text.items in
-    let t3 = c.push_parts-2.new.text.items in
-    gathered c.push_parts-2.result c.push_parts-2.ensures (λ e. then_piece t0 t1 t3 _ _ (same_piece t0 t1 _ _ c.in_ok-push_parts.ensures (λ j. concat (codes "<polyline class='cut" ∷ colour_text (Some (c.get.ensures.value j)) ∷ codes "' points='" ∷ []))) (then_piece t1 t2 t3 _ _ c.in_ok-push_cut_points.ensures e))
+    let t0 = string_bytes c.args.text.now in
+    let t1 = string_bytes c.write.new.self in
+    let t2 = string_bytes c.push_lanes.new.text in
+    let t3 = string_bytes c.writeln.new.self in
+    then_piece t0 t1 t3 _ _ (same_piece t0 t1 _ _ c.in_ok-write.ensures.bytes (λ j. concat (codes "<polyline class='cut c" ∷ decimal (c.get-inst.ensures.value j % 6) ∷ codes "' points='" ∷ [])))
+    (then_piece t1 t2 t3 _ _ c.in_ok-push_lanes.ensures
+    (same_piece t2 t3 _ _ c.in_ok-writeln.ensures.bytes (λ j. concat (codes "'><title>permanent cut after instance " ∷ decimal (c.get-inst.ensures.value j) ∷ codes "</title></polyline>\n" ∷ []))))

@@ -1,0 +1,15 @@
+use Rattle.std.proofs.Common.{ap}
+use Rattle.std.specs.String.{string_bytes}
+use Rattle.kt_picture.specs.Layers.{titled_text}
+use Rattle.kt_picture.specs.Pages.{view_in}
+use Rattle.kt_picture.proofs.Gathering.{same_piece, then_piece}
+use Rattle.kt_picture.proofs.layers.push_wrong.Goals as goal
+
+pub returns : goal.returns
+returns c =
+    let t0 = string_bytes c.args.text.now in
+    let t1 = string_bytes c.write.new.self in
+    let t2 = string_bytes c.push_arrow.new.text in
+    let t3 = string_bytes c.push_path.new.text in
+    let t4 = string_bytes c.writeln.new.self in
+    then_piece t0 t1 t4 _ _ c.in_ok-write.ensures.bytes (then_piece t1 t2 t4 _ _ c.in_ok-push_arrow.ensures (then_piece t2 t3 t4 _ _ (same_piece t2 t3 _ _ c.in_ok-push_path.ensures (ap (titled_text (view_in c.args.page.now) c.args.s.now) c.figure_of.ensures)) c.in_ok-writeln.ensures.bytes))

@@ -1,9 +1,0 @@
-use Rattle.kt_picture.proofs.Gathering.{gathered, then_piece}
-use Rattle.kt_picture.proofs.marks.push_row_words.Goals as goal
-
-pub returns : goal.returns
-returns c =
-    let t0 = c.args.text.now.items in
-    let t1 = c.push_parts.new.text.items in
-    let t2 = c.push_fields.new.text.items in
-    gathered c.push_fields.result c.push_fields.ensures (λ e. then_piece t0 t1 t2 _ _ c.in_ok-push_parts.ensures e)

@@ -1,0 +1,248 @@
+//! Which marks show a row.
+
+ghost use Rattle.std.specs.Prelude.{◌≡◌};
+ghost use Rattle.kt_picture.specs.Marks.{place_of, stretch_of, arrow_look, paint_of, tail_of, arrow, arrow_at, short_arrow, figure_at, figure_of, body_sent, body_of, label, word, word_at, number_at};
+ghost use Rattle.kt_picture.specs.Pages.{view_in};
+
+use crate::looks::{Figure, Look, Outline, Paint, Path, Place, Spot, shape};
+use crate::mark::{Mark, Stretch};
+use crate::page::Page;
+use crate::shown::{Shown, number_of};
+use crate::words::{Saying, Word};
+use kt_base::{InstNo, MsgNo, ProcNo};
+use kt_spacetime::Event;
+
+/// The place of a row.
+pub(crate) fn place_of(page: &Page<'_>, s: &Shown) -> Place
+    ensures { result ≡ place_of (view_in page.now) s.now }
+{
+    Place {
+        column: s.column,
+        lane: page.lanes.of(s.event.process()),
+    }
+}
+
+/// The stretch of a process's lane up to a row.
+pub(crate) fn stretch_of(page: &Page<'_>, s: &Shown) -> Mark
+    ensures { result ≡ stretch_of (view_in page.now) s.now }
+{
+    Mark::Stretch(Stretch {
+        from: Place {
+            column: s.since,
+            lane: page.lanes.of(s.event.process()),
+        },
+        until: s.column,
+        up: s.up,
+        open_in: s.open_in,
+    })
+}
+
+/// The arrow of this row that takes a message, or that sends one which is in transit at the window's end.
+pub(crate) fn arrow_at(page: &Page<'_>, s: &Shown, event: Event) -> Option<Path>
+    ensures { result ≡ arrow_at (view_in page.now) s.now event }
+{
+    match event {
+        Event::Sent { p, to, .. } if s.is_in_transit => Some(short_arrow(page, s, p, to)),
+        Event::Received { from, msg, .. } => Some(arrow(page, s, from, msg)),
+        Event::Dropped { from, msg, .. } => Some(arrow(page, s, from, msg)),
+        Event::Sent { .. } => None,
+        _ => None,
+    }
+}
+
+// The short arrow of a message in transit.
+fn short_arrow(page: &Page<'_>, s: &Shown, p: ProcNo, to: ProcNo) -> Path
+    ensures { result ≡ short_arrow (view_in page.now) s.now p to }
+{
+    let down = page.lanes.of(p) < page.lanes.of(to);
+    Path {
+        from: place_of(page, s),
+        figure: shape(Look::Way, None, Outline::Way { down }),
+    }
+}
+
+// The arrow of a message from where it was sent to where a row takes it, in the colour of the instance of its chain.
+fn arrow(page: &Page<'_>, s: &Shown, from: ProcNo, msg: MsgNo) -> Path
+    ensures { result ≡ arrow (view_in page.now) s.now from msg }
+{
+    let link = page.links.get(msg);
+    let stands_out = page.orphan == Some(msg);
+    let look = arrow_look(s.is_undone, s.is_taken_back, stands_out, link.is_some());
+    let tail = Place {
+        column: tail_of(page.before, msg, s.column),
+        lane: page.lanes.of(from),
+    };
+    let figure = Figure {
+        paint: paint_of(look, link),
+        outline: Outline::To(place_of(page, s)),
+    };
+    Path { from: tail, figure }
+}
+
+// How an arrow looks.
+fn arrow_look(is_undone: bool, is_taken_back: bool, stands_out: bool, linked: bool) -> Look
+    ensures { result ≡ arrow_look is_undone is_taken_back stands_out linked }
+{
+    match (is_undone, is_taken_back, stands_out, linked) {
+        (true, true, _, _) => Look::Vanished,
+        (false, true, _, _) => Look::Unreceived,
+        (_, false, true, _) => Look::Orphan,
+        (true, false, false, _) => Look::Unsent,
+        (false, false, false, true) => Look::Linked,
+        (false, false, false, false) => Look::Message,
+    }
+}
+
+// A message of a chain alone has a colour.
+fn paint_of(look: Look, link: Option<InstNo>) -> Paint
+    ensures { result ≡ paint_of look link }
+{
+    let inst = match look {
+        Look::Linked => number_of(link),
+        _ => None,
+    };
+    Paint { look, inst }
+}
+
+// The column where the arrow of a message begins: that of the row which sent it, but not behind its head.
+fn tail_of(before: u32, msg: MsgNo, column: u32) -> u32
+    ensures { result ≡ tail_of before msg column }
+{
+    let sent = msg.get().saturating_sub(before);
+    if column < sent { column } else { sent }
+}
+
+/// What shows a row at its place.
+pub(crate) fn figure_of(page: &Page<'_>, s: &Shown) -> Path
+    ensures { result ≡ figure_of (view_in page.now) s.now }
+{
+    Path {
+        from: place_of(page, s),
+        figure: figure_at(s),
+    }
+}
+
+fn figure_at(s: &Shown) -> Figure
+    ensures { result ≡ figure_at s.now s.now.event }
+{
+    let crossed = s.decision == Some(false);
+    let joined = if s.decision == Some(true) {
+        Look::Full
+    } else {
+        Look::Open
+    };
+    match s.event {
+        Event::Sent { .. } if s.is_undone => shape(Look::PaleDot, None, Outline::Dot),
+        Event::Sent { .. } => shape(Look::Dot, None, Outline::Dot),
+        Event::Received { .. } if s.is_undone || s.is_taken_back => {
+            shape(Look::PaleTick, None, Outline::Tick)
+        }
+        Event::Received { .. } => shape(Look::Tick, None, Outline::Tick),
+        Event::Dropped { .. } => shape(Look::Dropped, None, Outline::Cross),
+        Event::Began { inst, .. } => shape(Look::Bar, Some(inst.get()), Outline::Beginning),
+        Event::Took { inst, .. } => shape(joined, Some(inst.get()), Outline::Square { crossed }),
+        Event::Ready { inst, .. } => shape(joined, Some(inst.get()), Outline::Triangle { crossed }),
+        Event::Decided { inst, commit, .. } => {
+            let look = if commit { Look::Full } else { Look::Open };
+            shape(
+                look,
+                Some(inst.get()),
+                Outline::Diamond { crossed: !commit },
+            )
+        }
+        Event::Closed { inst, .. } => shape(Look::Open, Some(inst.get()), Outline::Ending),
+        Event::Failed { .. } => shape(Look::Failed, None, Outline::Bolt),
+        Event::Unwilling { .. } => shape(Look::Refused, None, Outline::Ban),
+        Event::Refused { .. } => shape(Look::Refused, None, Outline::Ban),
+    }
+}
+
+/// The number of the row of each fifth column.
+pub(crate) fn number_at(s: &Shown) -> Option<Mark>
+    ensures { result ≡ number_at s.now.row s.now.column }
+{
+    if s.column % 5 == 0 {
+        Some(Mark::RowNumber {
+            row: s.row,
+            column: s.column,
+        })
+    } else {
+        None
+    }
+}
+
+/// The word beside the mark of this row, or beside its arrow.
+pub(crate) fn word_at(page: &Page<'_>, s: &Shown, event: Event) -> Option<Mark>
+    ensures { result ≡ word_at (view_in page.now) s.now event }
+{
+    match event {
+        Event::Sent { p, to, body } if s.is_in_transit => {
+            label(page, s, p, to, s.row, Some(body))
+        }
+        Event::Sent { .. } => None,
+        Event::Received { p, from, msg } => {
+            label(page, s, p, from, msg.get(), body_of(page, msg))
+        }
+        Event::Dropped { p, from, msg } => label(page, s, p, from, msg.get(), body_of(page, msg)),
+        Event::Began { inst, kind, .. } => {
+            Some(word(page, s, false, Saying::Instance(kind, inst)))
+        }
+        Event::Decided { .. } => Some(word(page, s, true, Saying::Row(s.row))),
+        Event::Unwilling { cause, .. } => Some(word(page, s, true, Saying::Why(cause))),
+        Event::Refused { cause, .. } => Some(word(page, s, true, Saying::Why(cause))),
+        _ => None,
+    }
+}
+
+fn word(page: &Page<'_>, s: &Shown, below: bool, saying: Saying) -> Mark
+    ensures { result ≡ word (view_in page.now) s.now below saying }
+{
+    let at = place_of(page, s);
+    Mark::Word(Word {
+        spot: Spot { at, below },
+        saying,
+    })
+}
+
+// The word beside the arrow of a message between a process and another one, on the other one's side.
+fn label(
+    page: &Page<'_>,
+    s: &Shown,
+    p: ProcNo,
+    other: ProcNo,
+    msg: u32,
+    body: Option<i64>,
+) -> Option<Mark>
+    ensures { result ≡ label (view_in page.now) s.now p other msg body }
+{
+    if page.columns > MOST_LABELLED {
+        return None;
+    }
+    let below = page.lanes.of(p) < page.lanes.of(other);
+    Some(word(page, s, below, Saying::Message(msg, body)))
+}
+
+// How many columns a picture has at most whose messages have words.
+const MOST_LABELLED: u32 = 64;
+
+// The body of a message that a row of the window sent.
+fn body_of(page: &Page<'_>, msg: MsgNo) -> Option<i64>
+    ensures { result ≡ body_of (view_in page.now) msg }
+{
+    if msg.get() <= page.before {
+        return None;
+    }
+    match page.shown.get((msg.get() - page.before - 1) as usize) {
+        Some(s) => body_sent(s.event),
+        None => None,
+    }
+}
+
+fn body_sent(event: Event) -> Option<i64>
+    ensures { result ≡ body_sent event }
+{
+    match event {
+        Event::Sent { body, .. } => Some(body),
+        _ => None,
+    }
+}
