@@ -207,11 +207,13 @@ fn lines_of(alloc: Global, run: &ReadRun, verdict: &Verdict) -> Result<String, F
         explanation: &explanation,
         rows: Lines {
             name: "log",
-            of: run.log.lines.of.as_slice(),
+            count: run.log.lines.count,
+            runs: run.log.lines.runs.as_slice(),
         },
         records: Lines {
             name: "certificates",
-            of: run.certificates.lines.of.as_slice(),
+            count: run.certificates.lines.count,
+            runs: run.certificates.lines.runs.as_slice(),
         },
     };
     match format!(in alloc; "{told}") {

@@ -16,6 +16,7 @@ use crate::explanation::Explanation;
 use crate::finding::{Sought, first_row};
 use crate::undoing::undone_in;
 use crate::waiting::Waiting;
+use crate::words::{Row, say};
 use kt_base::{Memory, MsgNo, RowNo};
 use kt_checker::Why;
 use kt_cuts::Rule;
@@ -24,7 +25,7 @@ use std::alloc::Global;
 use std::fmt;
 
 /// A row that breaks a rule, and what breaks it.
-#[derive(Debug, Drop)]
+#[derive(Drop)]
 pub struct BadRow {
     pub row: RowNo,
     pub rule: Rule,
@@ -39,15 +40,12 @@ pub struct BadRow {
 
 impl fmt::Display for BadRow {
     fn fmt<W: fmt::Write>(&self, f: &mut fmt::Formatter<W>) -> fmt::Result {
-        let title = rule_title(self.rule);
-        let breach = self.breach;
-        write!(f, "{title}: {breach}")?;
+        write!(f, "{}{}", rule_title(self.rule), self.breach)?;
         if let Some(row) = self.undone {
-            write!(f, ", by row {row}")?;
+            say(f, ", by row #", &[Row(row)])?;
         }
         if let Some(row) = self.later {
-            let does = later_words(&breach);
-            write!(f, "; row {row}, after it, {does}")?;
+            say(f, later_words(&self.breach), &[Row(row)])?;
         }
         f.write_str("\n")?;
         match &self.waiting {
@@ -60,24 +58,24 @@ impl fmt::Display for BadRow {
 // What a later row does that no row before does.
 fn later_words(breach: &Breach) -> &'static str {
     match breach {
-        Breach::NotSent(_) => "sends it",
-        Breach::NotBegun(_) => "begins it",
-        _ => "decides it",
+        Breach::NotSent(_) => "; row #, after it, sends it",
+        Breach::NotBegun(_) => "; row #, after it, begins it",
+        _ => "; row #, after it, decides it",
     }
 }
 
 // A rule by number and name.
 fn rule_title(rule: Rule) -> &'static str {
     match rule {
-        Rule::Numbers => "rule 1, numbers",
-        Rule::Message => "rule 2, message",
-        Rule::Order => "rule 3, order",
-        Rule::Sending => "rule 4, sending",
-        Rule::Receiving => "rule 5, receiving",
-        Rule::Joining => "rule 6, joining",
-        Rule::Deciding => "rule 7, deciding",
-        Rule::Closing => "rule 8, closing",
-        Rule::Causes => "rule 9, causes",
+        Rule::Numbers => "rule 1, numbers: ",
+        Rule::Message => "rule 2, message: ",
+        Rule::Order => "rule 3, order: ",
+        Rule::Sending => "rule 4, sending: ",
+        Rule::Receiving => "rule 5, receiving: ",
+        Rule::Joining => "rule 6, joining: ",
+        Rule::Deciding => "rule 7, deciding: ",
+        Rule::Closing => "rule 8, closing: ",
+        Rule::Causes => "rule 9, causes: ",
     }
 }
 
@@ -102,8 +100,13 @@ pub(crate) fn bad_log(
     }
 }
 
-// The row of this number, which is the first that breaks a rule, and what breaks it.
-fn bad_row(alloc: Global, rows: &[Event], row: RowNo, rule: Rule) -> Result<Explanation, Memory>
+/// The row of this number, which is the first that breaks a rule, and what breaks it.
+pub(crate) fn bad_row(
+    alloc: Global,
+    rows: &[Event],
+    row: RowNo,
+    rule: Rule,
+) -> Result<Explanation, Memory>
     requires few { length rows.now ≤ 2 ^ 24 }
     requires within { row ≤ length rows.now }
     requires bad { first_broken rows.now ≡ Some (row, rule) }

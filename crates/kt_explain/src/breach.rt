@@ -4,11 +4,12 @@ pub(crate) mod before;
 mod deliveries;
 mod demands;
 
+use crate::words::{Count, Instance, Message, NO, Name, Process, Row, say};
 use kt_base::{InstNo, Kind, MsgNo, ProcNo, RowNo};
 use std::fmt;
 
 /// What is so before a row, and is against what a rule demands of it.
-#[derive(Clone, Copy, Debug)]
+#[derive(Clone, Copy)]
 pub enum Breach {
     /// No row sends this message.
     NotSent(MsgNo),
@@ -61,7 +62,7 @@ pub enum Breach {
 }
 
 /// An open instance that a process is in, which it joined in this row.
-#[derive(Clone, Copy, Debug)]
+#[derive(Clone, Copy)]
 pub struct Open {
     pub p: ProcNo,
     pub inst: InstNo,
@@ -71,7 +72,7 @@ pub struct Open {
 }
 
 /// A process that is not in an instance.
-#[derive(Clone, Copy, Debug)]
+#[derive(Clone, Copy)]
 pub struct Outside {
     pub p: ProcNo,
     pub inst: InstNo,
@@ -87,76 +88,77 @@ pub struct Outside {
 
 impl fmt::Display for Breach {
     fn fmt<W: fmt::Write>(&self, f: &mut fmt::Formatter<W>) -> fmt::Result {
-        match *self {
-            Breach::NotSent(m) => write!(f, "no row before this one sends message {m}"),
-            Breach::SentBetween(m, p, q) => {
-                write!(f, "message {m} is one of process {p} to process {q}")
-            }
-            Breach::Undone(m, ..) => write!(f, "the send of message {m} was undone"),
-            Breach::Received(p, _, m, row) => {
-                write!(f, "process {p} received message {m} before, in row {row}")
-            }
-            Breach::Dropped(m, row) => write!(f, "message {m} was dropped before, in row {row}"),
-            Breach::ReceivedLater(p, q, m, row) => write!(
-                f,
-                "process {p} received the later message {m} of process {q} before, in row {row}"
-            ),
-            Breach::DroppedLater(p, q, m, row) => write!(
-                f,
-                "process {p} dropped the later message {m} of process {q} before, in row {row}"
-            ),
-            Breach::OwnPeer(p) => write!(f, "both processes of the row are process {p}"),
-            Breach::Down(p, row) => write!(f, "process {p} is down since row {row}"),
-            Breach::Up(p) => write!(f, "process {p} is up"),
+        match self {
             Breach::Inside(open) => write!(f, "{open}"),
             Breach::Rolling(open) => write!(f, "{open}; it is a rollback"),
             Breach::NotInside(outside) => write!(f, "{outside}"),
-            _ => write_of_instance(f, self),
+            _ => say(f, text_of(self), &names_of(self)),
         }
     }
 }
 
-// What is so of an instance.
-fn write_of_instance<W: fmt::Write>(f: &mut fmt::Formatter<W>, breach: &Breach) -> fmt::Result {
+// What is so, but of open instances; each # stands for the next of its names.
+fn text_of(breach: &Breach) -> &'static str {
+    match breach {
+        Breach::NotSent(_) => "no row before this one sends message #",
+        Breach::SentBetween(..) => "message # is one of process # to process #",
+        Breach::Undone(..) => "the send of message # was undone",
+        Breach::Received(..) => "process # received message # before, in row #",
+        Breach::Dropped(..) => "message # was dropped before, in row #",
+        Breach::ReceivedLater(..) =>
+            "process # received the later message # of process # before, in row #",
+        Breach::DroppedLater(..) =>
+            "process # dropped the later message # of process # before, in row #",
+        Breach::OwnPeer(_) => "both processes of the row are process #",
+        Breach::Down(..) => "process # is down since row #",
+        Breach::Up(_) => "process # is up",
+        Breach::Joined(..) => "process # joined instance # before, in row #",
+        Breach::Member(..) => "process # is in instance # since row #",
+        Breach::JustBegun(..) =>
+            "process # began instance # in the row before, and does not join it in this one",
+        Breach::Next(_) => "the next instance to begin is #",
+        Breach::NotBegun(_) => "no row before this one begins instance #",
+        Breach::OfKind(_, Kind::Checkpoint, _) => "instance # began in row #, as a checkpoint",
+        Breach::OfKind(_, Kind::Rollback, _) => "instance # began in row #, as a rollback",
+        Breach::Initiator(..) => "process # began instance #, in row #",
+        Breach::Decided(..) => "instance # was decided before, in row #",
+        Breach::Undecided(_) => "no row before this one decides instance #",
+        Breach::OwnCause(_) =>
+            "instance # is the one that is refused and the one that the cause names",
+        _ => "no such command is refused for such a cause",
+    }
+}
+
+// What that names.
+fn names_of(breach: &Breach) -> [Name; 4] {
     match *breach {
-        Breach::Joined(p, k, row) => {
-            write!(f, "process {p} joined instance {k} before, in row {row}")
+        Breach::NotSent(m) | Breach::Undone(m, ..) => [Message(m), NO, NO, NO],
+        Breach::SentBetween(m, p, q) => [Message(m), Process(p), Process(q), NO],
+        Breach::Received(p, _, m, row) => [Process(p), Message(m), Row(row), NO],
+        Breach::Dropped(m, row) => [Message(m), Row(row), NO, NO],
+        Breach::ReceivedLater(p, q, m, row) | Breach::DroppedLater(p, q, m, row) => {
+            [Process(p), Message(m), Process(q), Row(row)]
         }
-        Breach::Member(p, k, row) => write!(f, "process {p} is in instance {k} since row {row}"),
-        Breach::JustBegun(p, k, _) => write!(
-            f,
-            "process {p} began instance {k} in the row before, and does not join it in this one"
-        ),
-        Breach::Next(number) => write!(f, "the next instance to begin is {number}"),
-        Breach::NotBegun(k) => write!(f, "no row before this one begins instance {k}"),
-        Breach::OfKind(k, kind, row) => {
-            let kind = kind_word(kind);
-            write!(f, "instance {k} began in row {row}, as a {kind}")
+        Breach::OwnPeer(p) | Breach::Up(p) => [Process(p), NO, NO, NO],
+        Breach::Down(p, row) => [Process(p), Row(row), NO, NO],
+        Breach::Joined(p, k, row) | Breach::Member(p, k, row) | Breach::Initiator(k, p, row) => {
+            [Process(p), Instance(k), Row(row), NO]
         }
-        Breach::Initiator(k, p, row) => write!(f, "process {p} began instance {k}, in row {row}"),
-        Breach::Decided(k, row) => write!(f, "instance {k} was decided before, in row {row}"),
-        Breach::Undecided(k) => write!(f, "no row before this one decides instance {k}"),
-        Breach::OwnCause(k) => write!(
-            f,
-            "instance {k} is the one that is refused and the one that the cause names"
-        ),
-        Breach::NoCause => f.write_str("no such command is refused for such a cause"),
-        _ => Ok(()),
-    }
-}
-
-// A kind by its name.
-fn kind_word(kind: Kind) -> &'static str {
-    match kind {
-        Kind::Checkpoint => "checkpoint",
-        Kind::Rollback => "rollback",
+        Breach::JustBegun(p, k, _) => [Process(p), Instance(k), NO, NO],
+        Breach::Next(number) => [Count(number), NO, NO, NO],
+        Breach::NotBegun(k) | Breach::Undecided(k) | Breach::OwnCause(k) => {
+            [Instance(k), NO, NO, NO]
+        }
+        Breach::OfKind(k, _, row) | Breach::Decided(k, row) => [Instance(k), Row(row), NO, NO],
+        _ => [NO; 4],
     }
 }
 
 impl fmt::Display for Open {
     fn fmt<W: fmt::Write>(&self, f: &mut fmt::Formatter<W>) -> fmt::Result {
         let Open { p, inst, row, .. } = *self;
-        write!(f, "process {p} is in instance {inst} since row {row}")?;
+        let since = "process # is in instance # since row #";
+        say(f, since, &[Process(p), Instance(inst), Row(row)])?;
         write_decision(f, self.decided)
     }
 }
@@ -164,7 +166,7 @@ impl fmt::Display for Open {
 // In which row an open instance was decided, or that it was not.
 fn write_decision<W: fmt::Write>(f: &mut fmt::Formatter<W>, decided: Option<RowNo>) -> fmt::Result {
     match decided {
-        Some(row) => write!(f, ", which was decided in row {row}"),
+        Some(row) => say(f, ", which was decided in row #", &[Row(row)]),
         None => f.write_str(", which is not decided"),
     }
 }
@@ -174,17 +176,25 @@ impl fmt::Display for Outside {
         let Outside { p, inst, .. } = *self;
         match self.open_in {
             Some(other) => {
-                write!(f, "process {p} is in instance {other}")?;
+                say(
+                    f,
+                    "process # is in instance #",
+                    &[Process(p), Instance(other)],
+                )?;
                 write_decision(f, self.decided)?;
             }
-            None => write!(f, "process {p} is in no instance")?,
+            None => say(f, "process # is in no instance", &[Process(p)])?,
         }
         match self.joined {
-            Some(row) => write!(f, "; it joined instance {inst} in row {row}")?,
-            None => write!(f, "; it has not joined instance {inst}")?,
+            Some(row) => say(
+                f,
+                "; it joined instance # in row #",
+                &[Instance(inst), Row(row)],
+            )?,
+            None => say(f, "; it has not joined instance #", &[Instance(inst)])?,
         }
         match self.closed {
-            Some(row) => write!(f, " and closed it in row {row}"),
+            Some(row) => say(f, " and closed it in row #", &[Row(row)]),
             None => Ok(()),
         }
     }

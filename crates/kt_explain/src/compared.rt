@@ -21,7 +21,7 @@ use kt_spacetime::SpaceTime;
 use std::alloc::Global;
 
 /// In what the certificates of an instance differ.
-#[derive(Clone, Copy, Debug)]
+#[derive(Clone, Copy)]
 pub enum Differs {
     /// In the record at this place: 0 of that of the instance, from 1 on of those of its members; whether chains count.
     Record(usize, bool),
@@ -30,7 +30,7 @@ pub enum Differs {
 }
 
 /// The certificate of an instance in a list, and the one that the log means.
-#[derive(Debug, Drop)]
+#[derive(Drop)]
 pub struct Compared {
     pub inst: InstNo,
     /// The place of the first certificate of the instance in the list.
@@ -62,8 +62,8 @@ pub(crate) fn compare(
     }
 }
 
-// The member for which a legal log means no certificates.
-fn without(log: &SpaceTime, fault: CertFault) -> Result<Explanation, Memory>
+/// The member for which a legal log means no certificates.
+pub(crate) fn without(log: &SpaceTime, fault: CertFault) -> Result<Explanation, Memory>
     requires legal { IsLegal log.now.rows }
     requires fault { IsFaultOf log.now.rows fault }
     ensures { IfOk result (λ e. (list : List Certificates) (verdict : Verdict) → (j : ℕ) × IsNoOf verdict j

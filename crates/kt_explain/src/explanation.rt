@@ -1,18 +1,24 @@
 //! What is told of an answer.
 
-ghost use Rattle.std.specs.Prelude.{◌≤◌, ◌^◌, List, Some, IfOk, length};
+ghost use Rattle.std.specs.Prelude.{◌≡◌, ◌≤◌, ◌^◌, ℕ, List, None, Some, IfOk, length};
 ghost use Rattle.kt_chain.specs.declared.certificate.Certificate.{Certificate as Certificates};
-ghost use Rattle.kt_checker.specs.declared.verdict.Why.TheVariants as why;
+ghost use Rattle.kt_certify.specs.Faults.{IsUnfit};
+ghost use Rattle.kt_certify.specs.declared.fault.Unfit.TheVariants as unfit;
+ghost use Rattle.kt_checker.specs.declared.verdict.Why.TheVariants as reason;
+ghost use Rattle.kt_checker.specs.declared.verdict.Verdict.{Verdict as Verdicts};
 ghost use Rattle.kt_checker.specs.declared.verdict.Verdict.TheVariants.{No};
 ghost use Rattle.kt_checker.specs.Order.{IsCheckerAnswer};
-ghost use Rattle.kt_explain.specs.Told.{IsExplanation};
+ghost use Rattle.kt_cuts.specs.declared.rules.Rule.{Rule as Rules};
+ghost use Rattle.kt_explain.specs.Told.{IsExplanation, IsNoOf};
 
-use crate::bad_row::{BadRow, bad_log};
-use crate::compared::{Compared, compare};
+use crate::bad_row::{BadRow, bad_log, bad_row};
+use crate::compared::{Compared, compare, without};
 use crate::finding::{Sought, first_row};
 use crate::judged::{Judged, at_end};
 use crate::orphans::{Orphan, orphan_at};
+use crate::words::{Instance, Process, Row, say};
 use kt_base::{InstNo, Memory, ProcNo, RowNo};
+use kt_certify::{CertFault, Unfit};
 use kt_chain::Certificate;
 use kt_checker::{Verdict, Why};
 use kt_spacetime::{Event, SpaceTime};
@@ -20,7 +26,7 @@ use std::alloc::Global;
 use std::fmt;
 
 /// What is told of an answer of the checker, in the words of the log.
-#[derive(Debug, Drop)]
+#[derive(Drop)]
 pub enum Explanation {
     /// Nothing, which is told of no answer.
     Nothing,
@@ -59,33 +65,39 @@ pub enum Explanation {
 impl fmt::Display for Explanation {
     fn fmt<W: fmt::Write>(&self, f: &mut fmt::Formatter<W>) -> fmt::Result {
         match self {
-            Explanation::Nothing => Ok(()),
+            Explanation::Nothing | Explanation::Compared(_) => Ok(()),
             Explanation::Judged(judged) => write!(f, "{judged}"),
             Explanation::Objection {
                 inst,
                 p,
                 row,
                 decided,
-            } => write!(
-                f,
-                "row {decided} commits instance {inst}; process {p} was unwilling to join it, in row {row}\n"
-            ),
-            Explanation::NoObjection { inst, decided } => write!(
-                f,
-                "row {decided} aborts instance {inst}; no process was unwilling to join it\n"
-            ),
-            Explanation::Compared(_) => Ok(()),
-            Explanation::Unlinked { inst, p, joined } => {
-                write!(
+            } => {
+                let text =
+                    "row # commits instance #; process # was unwilling to join it, in row #\n";
+                say(
                     f,
-                    "the log means no certificates: in instance {inst} no message links process {p} with a member before it"
-                )?;
+                    text,
+                    &[Row(*decided), Instance(*inst), Process(*p), Row(*row)],
+                )
+            }
+            Explanation::NoObjection { inst, decided } => {
+                let text = "row # aborts instance #; no process was unwilling to join it\n";
+                say(f, text, &[Row(*decided), Instance(*inst)])
+            }
+            Explanation::Unlinked { inst, p, joined } => {
+                let text =
+                    "the log means no certificates: in instance # no message links process # with a member before it";
+                say(f, text, &[Instance(*inst), Process(*p)])?;
                 match joined {
-                    Some(row) => write!(f, "; it joined in row {row}\n"),
+                    Some(row) => say(f, "; it joined in row #\n", &[Row(*row)]),
                     None => f.write_str("\n"),
                 }
             }
-            Explanation::Orphan { inst, orphan } => write!(f, "instance {inst}: {orphan}"),
+            Explanation::Orphan { inst, orphan } => {
+                say(f, "instance #: ", &[Instance(*inst)])?;
+                write!(f, "{orphan}")
+            }
             Explanation::BadLog(row) => write!(f, "{row}"),
         }
     }
@@ -103,25 +115,24 @@ pub fn explain(
 {
     match *verdict {
         Verdict::Yes => Ok(Explanation::Judged(at_end(alloc, log, certificates)?)),
-        Verdict::No { inst, row, why } => explain_no(alloc, log, certificates, inst, row, why),
+        Verdict::No { inst, row, why } => match inst {
+            Some(inst) => of_instance(alloc, log, certificates, inst, row, why),
+            None => bad_log(alloc, log.rows(), row, why),
+        },
     }
 }
 
-// What is told of a no.
-fn explain_no(
-    alloc: Global,
-    log: &SpaceTime,
-    certificates: &[Certificate],
-    inst: Option<InstNo>,
-    row: Option<RowNo>,
-    why: Why,
-) -> Result<Explanation, Memory>
-    requires answer { IsCheckerAnswer log.now.rows certificates.now (No inst row why) }
-    ensures { IfOk result (IsExplanation log.now.rows certificates.now (No inst row why)) }
+/// What is told of a log that means no certificates: the row that breaks a rule, or the member that has no chain.
+pub fn explain_unfit(alloc: Global, log: &SpaceTime, why: Unfit) -> Result<Explanation, Memory>
+    requires unfit { IsUnfit log.now.rows why }
+    ensures broken { IfOk result (λ e. (row : ℕ) (rule : Rules) → why ≡ unfit.BadLog row rule
+        → (list : List Certificates) → IsExplanation log.now.rows list (No None (Some row) (reason.BadLog rule)) e) }
+    ensures unlinked { IfOk result (λ e. (k row p : ℕ) → why ≡ unfit.NoChain k row p → (list : List Certificates)
+        (verdict : Verdicts) (j : ℕ) → IsNoOf verdict j → IsExplanation log.now.rows list verdict e) }
 {
-    match inst {
-        Some(inst) => of_instance(alloc, log, certificates, inst, row, why),
-        None => bad_log(alloc, log.rows(), row, why),
+    match why {
+        Unfit::BadLog(row, rule) => bad_row(alloc, log.rows(), row, rule),
+        Unfit::NoChain(inst, _row, p) => without(log, CertFault::NoChain(inst, p)),
     }
 }
 
@@ -155,8 +166,8 @@ fn of_instance(
 fn objection(rows: &[Event], inst: InstNo, decided: RowNo) -> Explanation
     requires few { length rows.now ≤ 2 ^ 24 }
     ensures { (certificates : List Certificates)
-        → IsCheckerAnswer rows.now certificates (No (Some inst) (Some decided) why.Cause)
-        → IsExplanation rows.now certificates (No (Some inst) (Some decided) why.Cause) result }
+        → IsCheckerAnswer rows.now certificates (No (Some inst) (Some decided) reason.Cause)
+        → IsExplanation rows.now certificates (No (Some inst) (Some decided) reason.Cause) result }
 {
     let Some(found) = first_row(rows, &Sought::Unwilling(inst)) else {
         return Explanation::NoObjection { inst, decided };

@@ -28,7 +28,7 @@ pub enum Sought {
 }
 
 /// A row that was found, with its number.
-#[derive(Clone, Copy, Debug)]
+#[derive(Clone, Copy)]
 pub(crate) struct Found {
     pub number: RowNo,
     pub row: Event,
@@ -69,10 +69,7 @@ pub fn first_number(rows: &[Event], sought: &Sought) -> Option<RowNo>
     requires few { length rows.now ≤ 2 ^ 24 }
     ensures { IsFirstNumber (is_sought sought.now) rows.now result }
 {
-    match first_row(rows, sought) {
-        Some(found) => Some(found.number),
-        None => None,
-    }
+    Some(first_row(rows, sought)?.number)
 }
 
 /// Whether a row says what is sought.

@@ -10,6 +10,7 @@ ghost use Rattle.kt_histories.specs.HistoriesOf.{HistoriesOf};
 ghost use Rattle.kt_explain.specs.Judged.{AreDecided, IsJudgedSo, IsOpenInstance, is_anyone_in, is_decided, is_left_open, begun_open, open_instances, receiver_in_transit, receivers_in_transit, is_drop};
 
 use crate::breach::before::begun_in;
+use crate::words::{Count, Instance, Process, say};
 use kt_base::{InstNo, Kind, Memory, MsgNo, ProcNo, ProcSet};
 use kt_chain::Certificate;
 use kt_histories::Histories;
@@ -18,14 +19,14 @@ use std::alloc::Global;
 use std::fmt;
 
 /// How many instances of a kind were committed, and how many aborted.
-#[derive(Clone, Copy, Debug)]
+#[derive(Clone, Copy)]
 pub struct Decided {
     pub committed: usize,
     pub aborted: usize,
 }
 
 /// An instance that is undecided, or that not all of its members have closed.
-#[derive(Clone, Copy, Debug)]
+#[derive(Clone, Copy)]
 pub struct OpenInstance {
     pub inst: InstNo,
     /// The processes that are in it.
@@ -33,7 +34,7 @@ pub struct OpenInstance {
 }
 
 /// What was judged, and what is left open.
-#[derive(Debug, Drop)]
+#[derive(Drop)]
 pub struct Judged {
     /// How many rows the log has.
     pub rows: usize,
@@ -55,17 +56,19 @@ pub struct Judged {
 
 impl fmt::Display for Judged {
     fn fmt<W: fmt::Write>(&self, f: &mut fmt::Formatter<W>) -> fmt::Result {
-        write!(
-            f,
-            "rows {}, instances {}: checkpoints {}, rollbacks {}\n",
-            self.rows, self.instances, self.checkpoints, self.rollbacks
-        )?;
+        let (one, other) = (self.checkpoints, self.rollbacks);
+        let read = [Count(self.rows), Count(self.instances)];
+        say(f, "rows #, instances #: checkpoints ", &read)?;
+        let one = [Count(one.committed), Count(one.aborted)];
+        say(f, "# committed # aborted, rollbacks ", &one)?;
+        let other = [Count(other.committed), Count(other.aborted)];
+        say(f, "# committed # aborted\n", &other)?;
         for open in self.open.iter() {
-            write!(f, "open: instance {}: ", open.inst)?;
+            say(f, "open: instance #: ", &[Instance(open.inst)])?;
             write_processes(f, open.inside)?;
         }
         if self.in_transit > 0 {
-            write!(f, "in transit: {} to ", self.in_transit)?;
+            say(f, "in transit: # to ", &[Count(self.in_transit)])?;
             write_processes(f, self.receivers)?;
         }
         if self.down.count() > 0 {
@@ -73,15 +76,9 @@ impl fmt::Display for Judged {
             write_processes(f, self.down)?;
         }
         if self.dropped > 0 {
-            write!(f, "dropped: {}\n", self.dropped)?;
+            say(f, "dropped: #\n", &[Count(self.dropped)])?;
         }
         Ok(())
-    }
-}
-
-impl fmt::Display for Decided {
-    fn fmt<W: fmt::Write>(&self, f: &mut fmt::Formatter<W>) -> fmt::Result {
-        write!(f, "{} committed {} aborted", self.committed, self.aborted)
     }
 }
 
@@ -94,7 +91,7 @@ fn write_processes<W: fmt::Write>(f: &mut fmt::Formatter<W>, set: ProcSet) -> fm
     for number in 0..ProcNo::COUNT {
         let p = ProcNo::nth(number);
         if set.has(p) {
-            write!(f, " {p}")?;
+            say(f, " #", &[Process(p)])?;
         }
     }
     f.write_str("\n")

@@ -8,7 +8,7 @@
 //! rule `bad_row.rt`; what the rules demand of it, one by one, `breach/demands.rt` (`specs/Demands`); what is against a
 //! demand `breach.rt` (`specs/Breaches`), found demand by demand in `breach/before.rt` and `breach/deliveries.rt`; what
 //! undid a message `undoing.rt`; what is in transit `waiting.rt`; certificates beside those that the log means
-//! `compared.rt` (`specs/Compared`); the orphan `orphans.rt`; after a yes `judged.rt` (`specs/Judged`).
+//! `compared.rt` (`specs/Compared`); the orphan `orphans.rt`; after a yes `judged.rt` (`specs/Judged`); `words.rt`.
 #![tactic(auto)]
 
 mod bad_row;
@@ -21,11 +21,12 @@ mod lines;
 mod orphans;
 mod undoing;
 mod waiting;
+mod words;
 
 pub use bad_row::BadRow;
 pub use breach::{Breach, Open, Outside};
 pub use compared::{Compared, Differs};
-pub use explanation::{Explanation, explain};
+pub use explanation::{Explanation, explain, explain_unfit};
 pub use finding::{Sought, first_number};
 pub use judged::{Decided, Judged, OpenInstance};
 pub use lines::{Lines, Told};

@@ -3,20 +3,23 @@
 ghost use Rattle.std.specs.Prelude.{◌≡◌, ◌≤◌, ◌+◌, All, IfSome, IsTrue, length, take};
 ghost use Rattle.kt_chain.specs.Spelling.{HasShortChains, certificate_records, records_of};
 
-use crate::compared::Differs;
+use crate::compared::{Compared, Differs};
 use crate::explanation::Explanation;
-use kt_base::{InstNo, Memory, RowNo};
+use kt_base::{Memory, RowNo};
 use kt_chain::{Certificate, write_certs};
-use kt_log_text::write_csv;
+use kt_log_text::push_fields;
 use kt_spacetime::{Event, SpaceTime};
 use std::alloc::Global;
 use std::fmt;
 
-/// A file by its name, and on which line of it, from 1, each of its records begins.
+/// A file by its name, and on which lines of it, from 1, its records begin.
 #[derive(Clone, Copy)]
 pub struct Lines<'a> {
     pub name: &'a str,
-    pub of: &'a [u64],
+    /// How many records it has.
+    pub count: usize,
+    /// Of each run of records that stand on lines next to one another the number of the first, from 0, and its line.
+    pub runs: &'a [(usize, u64)],
 }
 
 /// What is told of an answer, as lines: the row that it names and where it stands, the facts, and the records that differ.
@@ -36,125 +39,101 @@ pub struct Told<'a> {
 
 impl fmt::Display for Told<'_> {
     fn fmt<W: fmt::Write>(&self, f: &mut fmt::Formatter<W>) -> fmt::Result {
-        let Ok(row) = row_line(self.alloc, self.log.rows(), &self.rows, self.row) else {
-            return Err(fmt::Error);
-        };
-        let certificates = self.certificates;
-        let told = record_lines(self.alloc, certificates, &self.records, self.explanation);
-        let Ok(records) = told else {
-            return Err(fmt::Error);
-        };
-        let explanation = self.explanation;
-        write!(f, "{row}{explanation}{records}")
+        if let Some(number) = self.row {
+            write_row(f, self.alloc, self.log.rows(), &self.rows, number)?;
+        }
+        write!(f, "{}", self.explanation)?;
+        match self.explanation {
+            Explanation::Compared(told) => write_records(
+                f,
+                self.alloc,
+                self.certificates,
+                &self.records,
+                told,
+            ),
+            _ => Ok(()),
+        }
     }
 }
 
-// The line of the row that an answer names.
-fn row_line(
+// Writes the row of this number, and where it stands.
+fn write_row<W: fmt::Write>(
+    f: &mut fmt::Formatter<W>,
     alloc: Global,
     rows: &[Event],
     lines: &Lines,
-    row: Option<RowNo>,
-) -> Result<String, Memory> {
-    let Some(number) = row else {
-        return Ok(String::new(alloc));
-    };
+    number: RowNo,
+) -> fmt::Result {
     let before = number.get() as usize - 1;
     let Some(row) = rows.get(before) else {
-        return Ok(String::new(alloc));
+        return Ok(());
     };
-    let mut log = SpaceTime::new(alloc);
-    log.reserve(1)?;
-    log.push_reserved(*row);
     let mut text = Vec::new(alloc);
-    if write_csv(alloc, &log, &mut text).is_err() {
-        return Err(Memory);
+    if push_fields(&mut text, *row).is_err() {
+        return Err(fmt::Error);
     }
-    let Some(row) = line_at(alloc, text.as_slice(), 1)? else {
-        return Err(Memory);
+    let Ok(row) = String::from_utf8_lossy(alloc, text.as_slice()) else {
+        return Err(fmt::Error);
     };
-    let others = lines.of.len().saturating_sub(rows.len());
+    let others = lines.count.saturating_sub(rows.len());
     let (file, line) = (lines.name, line_of(lines, others + before));
-    let told = if line == u64::from(number.get()) {
-        format!(in alloc; "{file}:{line}: {row}\n")
+    if line == u64::from(number.get()) {
+        writeln!(f, "{file}:{line}: {row}")
     } else {
-        format!(in alloc; "{file}:{line}: {row} (row {number})\n")
-    };
-    Ok(told?)
+        writeln!(f, "{file}:{line}: {row} (row {number})")
+    }
 }
 
-// The line of the record after so many others; 0 where there is none.
+// The line of the record after so many others.
 fn line_of(lines: &Lines, before: usize) -> u64 {
-    match lines.of.get(before) {
-        Some(line) => *line,
-        None => 0,
+    let mut line = 0;
+    for (first, start) in lines.runs {
+        if *first <= before {
+            line = start.saturating_add((before - *first) as u64);
+        }
     }
+    line
 }
 
-// The line of a text after so many others.
-fn line_at(alloc: Global, text: &[u8], before: usize) -> Result<Option<String>, Memory> {
-    match text.split(|byte| *byte == b'\n').nth(before) {
-        Some([]) | None => Ok(None),
-        Some(line) => Ok(Some(String::from_utf8_lossy(alloc, line)?)),
-    }
-}
-
-// The records of an instance that differ: what the certificates have, and what the log means.
-fn record_lines(
+// Writes the records of an instance that differ: what the certificates have, and what the log means.
+fn write_records<W: fmt::Write>(
+    f: &mut fmt::Formatter<W>,
     alloc: Global,
     certificates: &[Certificate],
     lines: &Lines,
-    explanation: &Explanation,
-) -> Result<String, Memory> {
-    let Explanation::Compared(told) = explanation else {
-        return Ok(String::new(alloc));
-    };
+    told: &Compared,
+) -> fmt::Result {
     let inst = told.inst;
     let (has, place) = match told.differs {
         Differs::Record(place, _) => (told.has, place),
         Differs::Second(second) => (Some(second), 0),
     };
-    let here = has_line(alloc, certificates, lines, inst, has, place)?;
-    let there = record_text(alloc, told.meant.as_slice(), told.means, place)?;
-    let lines = match (told.differs, &there) {
-        (Differs::Second(_), _) => format!(in alloc;
-            "{here}it is a second certificate of instance {inst}\n"
-        ),
-        (_, Some(text)) => format!(in alloc; "{here}the log means {text}\n"),
-        (_, None) if told.means.is_some() => {
-            format!(in alloc; "{here}the log means no more records of instance {inst}\n")
-        }
-        (_, None) => format!(in alloc;
-            "{here}the log means none: no row decides instance {inst}\n"
-        ),
+    let here = record_text(alloc, certificates, has, place);
+    let there = record_text(alloc, told.meant.as_slice(), told.means, place);
+    let (Ok(here), Ok(there)) = (here, there) else {
+        return Err(fmt::Error);
     };
-    Ok(lines?)
-}
-
-// What the certificates have at a place of the certificate at an index.
-fn has_line(
-    alloc: Global,
-    certificates: &[Certificate],
-    lines: &Lines,
-    inst: InstNo,
-    index: Option<usize>,
-    place: usize,
-) -> Result<String, Memory> {
-    let number = match index {
+    let number = match has {
         Some(index) if index < certificates.len() => record_number(certificates, index, place),
         _ => None,
     };
-    let line = match (record_text(alloc, certificates, index, place)?, number) {
+    match (here, number) {
         (Some(text), Some(number)) => {
             let line = line_of(lines, number.saturating_sub(1));
-            format!(in alloc; "{}:{line}: has {text}\n", lines.name)
+            writeln!(f, "{}:{line}: has {text}", lines.name)?;
         }
-        (None, Some(_)) => {
-            format!(in alloc; "the certificates have no more records of instance {inst}\n")
-        }
-        (_, None) => format!(in alloc; "the certificates have no record of instance {inst}\n"),
-    };
-    Ok(line?)
+        (None, Some(_)) => writeln!(
+            f,
+            "the certificates have no more records of instance {inst}"
+        )?,
+        (_, None) => writeln!(f, "the certificates have no record of instance {inst}")?,
+    }
+    match (told.differs, there, told.means) {
+        (Differs::Second(_), ..) => writeln!(f, "it is a second certificate of instance {inst}"),
+        (_, Some(text), _) => writeln!(f, "the log means {text}"),
+        (_, None, Some(_)) => writeln!(f, "the log means no more records of instance {inst}"),
+        (_, None, None) => writeln!(f, "the log means none: no row decides instance {inst}"),
+    }
 }
 
 // The record at a place of the certificate at an index: 0 for that of the instance, from 1 on for those of its members.
@@ -175,7 +154,10 @@ fn record_text(
     if !are_short(one) || write_certs(alloc, one, &mut text).is_err() {
         return Err(Memory);
     }
-    line_at(alloc, text.as_slice(), place)
+    match text.as_slice().split(|byte| *byte == b'\n').nth(place) {
+        Some([]) | None => Ok(None),
+        Some(line) => Ok(Some(String::from_utf8_lossy(alloc, line)?)),
+    }
 }
 
 // Whether no chain is too long to be written.

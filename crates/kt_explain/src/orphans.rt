@@ -19,6 +19,7 @@ use crate::compared::first_of;
 use crate::explanation::Explanation;
 use crate::finding::{Sought, last_number};
 use crate::undoing::undoing;
+use crate::words::{Message, Process, Row, say};
 use kt_base::{InstNo, Kind, Memory, MsgNo, ProcNo, RowNo};
 use kt_chain::Certificate;
 use kt_cuts::Cut;
@@ -28,7 +29,7 @@ use std::alloc::Global;
 use std::fmt;
 
 /// An orphan of the cut that the decision of an instance makes. Its number is that of the row that sent it.
-#[derive(Clone, Copy, Debug)]
+#[derive(Clone, Copy)]
 pub struct Orphan {
     pub msg: MsgNo,
     pub from: ProcNo,
@@ -46,20 +47,16 @@ pub struct Orphan {
 impl fmt::Display for Orphan {
     fn fmt<W: fmt::Write>(&self, f: &mut fmt::Formatter<W>) -> fmt::Result {
         let Orphan { msg, from, to, .. } = *self;
-        write!(
-            f,
-            "message {msg} is an orphan: process {from} sent it in row {msg}"
-        )?;
+        let sent = "message # is an orphan: process # sent it in row #";
+        say(f, sent, &[Message(msg), Process(from), Message(msg)])?;
         if let Some(row) = self.undone {
-            write!(f, ", which row {row} undid")?;
+            say(f, ", which row # undid", &[Row(row)])?;
         }
-        write!(f, "; process {to} received it in row {}\n", self.received)?;
+        let received = "; process # received it in row #\nits sender is ";
+        say(f, received, &[Process(to), Row(self.received)])?;
         let sender = member_word(self.is_sender_member);
         let receiver = member_word(self.is_receiver_member);
-        write!(
-            f,
-            "its sender is {sender} of the instance, its receiver is {receiver}\n"
-        )
+        writeln!(f, "{sender} of the instance, its receiver is {receiver}")
     }
 }
 

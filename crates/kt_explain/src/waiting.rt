@@ -4,6 +4,7 @@ ghost use Rattle.std.specs.Prelude.{◌≡◌, ◌≤◌, ◌<◌, ◌+◌, ◌^
 ghost use Rattle.kt_explain.specs.Breaches.{Notes};
 
 use crate::breach::before::Before;
+use crate::words::{Count, Message, Process, say};
 use kt_base::{Memory, MsgNo, ProcNo};
 use kt_spacetime::Event;
 use std::alloc::Global;
@@ -13,7 +14,7 @@ use std::fmt;
 const MOST_NAMED: usize = 8;
 
 /// The messages of a sender to a process that are in transit, and the latest one that was received.
-#[derive(Debug, Drop)]
+#[derive(Drop)]
 pub struct Waiting {
     pub from: ProcNo,
     pub to: ProcNo,
@@ -27,22 +28,19 @@ pub struct Waiting {
 
 impl fmt::Display for Waiting {
     fn fmt<W: fmt::Write>(&self, f: &mut fmt::Formatter<W>) -> fmt::Result {
-        write!(
-            f,
-            "in transit from process {} to process {} before this row:",
-            self.from, self.to
-        )?;
+        let between = "in transit from process # to process # before this row:";
+        say(f, between, &[Process(self.from), Process(self.to)])?;
         if self.least.is_empty() {
             f.write_str(" none")?;
         }
         for msg in &self.least {
-            write!(f, " {msg}")?;
+            say(f, " #", &[Message(*msg)])?;
         }
         if self.count > self.least.len() {
-            write!(f, " and more, {} in all", self.count)?;
+            say(f, " and more, # in all", &[Count(self.count)])?;
         }
         match self.received {
-            Some(msg) => write!(f, "; received last: {msg}\n"),
+            Some(msg) => say(f, "; received last: #\n", &[Message(msg)]),
             None => f.write_str("; received: none\n"),
         }
     }

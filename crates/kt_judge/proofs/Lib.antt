@@ -1,1 +1,3 @@
+mod Bases
+mod DecidedRows
 mod OpenInstances

@@ -1,16 +1,17 @@
 -- How a log is judged, by certificates that are named or by those that it means.
-use Rattle.std.specs.Prelude.{◌≡◌, Bool, true, Option, Some, None, List, []}
+use Rattle.std.specs.Prelude.{◌≡◌, ℕ, Bool, true, Option, Some, None, List, []}
 use Rattle.kt_spacetime.specs.declared.event.Event.{Event}
 use Rattle.kt_cuts.specs.Legal.{IsLegal}
 use Rattle.kt_chain.specs.declared.certificate.Certificate.{Certificate}
-use Rattle.kt_certify.specs.Faults.{IsFitLog, IsWhyUnfit}
+use Rattle.kt_certify.specs.Faults.{IsFitLog, IsUnfit}
 use Rattle.kt_certify.specs.Meant.{AreMeant}
-use Rattle.kt_certify.specs.declared.fault.CertFault.TheVariants as fault
 use Rattle.kt_certify.specs.declared.fault.Unfit.{Unfit}
 use Rattle.kt_certify.specs.declared.fault.Unfit.TheVariants.{BadLog, NoChain}
 use Rattle.kt_checker.specs.declared.verdict.Verdict.{Verdict}
-use Rattle.kt_checker.specs.declared.verdict.Verdict.TheVariants.{Yes}
-use Rattle.kt_explain.specs.Finding.{IsFirstNumber, decides_inst}
+use Rattle.kt_checker.specs.declared.verdict.Verdict.TheVariants.{Yes, No}
+use Rattle.kt_checker.specs.declared.verdict.Why.TheVariants as reason
+use Rattle.kt_explain.specs.declared.explanation.Explanation.{Explanation}
+use Rattle.kt_explain.specs.Told.{IsExplanation, IsNoOf}
 use Rattle.kt_explain.specs.Judged.{open_instances, receivers_in_transit}
 use Rattle.kt_judge.specs.declared.answer.Answer.{Answer}
 use Rattle.kt_judge.specs.declared.answer.Answer.TheVariants.{Checked, Unlinked, Open}
@@ -22,13 +23,23 @@ AreJudging rows None list = IsLegal rows → IsFitLog rows × AreMeant rows list
 
 -- legal rows mean no certificates: a member of a committed instance has no chain; with the row that decides the instance
 abbrev pub IsUnlinked : List Event → Unfit → Type 0
-IsUnlinked rows (NoChain k row p) = IsWhyUnfit rows (fault.NoChain k p) × IsFirstNumber (decides_inst k) rows (Some row)
+IsUnlinked rows (NoChain k row p) = IsUnfit rows (NoChain k row p)
 IsUnlinked rows (BadLog row rule) = ⊥
 
--- what rows are judged by, or why they are not
+-- what is told of rows that mean no certificates, whatever certificates are named
+abbrev pub IsUnfitTold : List Event → Unfit → Explanation → Type 0
+IsUnfitTold rows (BadLog row rule) e = (list : List Certificate) → IsExplanation rows list (No None (Some row) (reason.BadLog rule)) e
+IsUnfitTold rows (NoChain k row p) e = (list : List Certificate) (verdict : Verdict) (j : ℕ) → IsNoOf verdict j → IsExplanation rows list verdict e
+
+-- what rows are judged by; or why they mean no certificates, where none are named
 abbrev pub IsBasis : List Event → Option (List Certificate) → Option Unfit → List Certificate → Type 0
 IsBasis rows named None list = AreJudging rows named list
-IsBasis rows named (Some why) list = (named ≡ None) × IsUnlinked rows why
+IsBasis rows named (Some why) list = (named ≡ None) × IsUnfit rows why
+
+-- a member of legal rows has no chain, where no certificates are named; or these are what rows are judged by
+abbrev pub IsUnlinkedOr : List Event → Option (List Certificate) → Option Unfit → List Certificate → Type 0
+IsUnlinkedOr rows named None list = AreJudging rows named list
+IsUnlinkedOr rows named (Some why) list = (named ≡ None) × IsUnlinked rows why
 
 -- rows that leave no instance open, and no message in transit
 pub record IsAtRest (rows : List Event) : Type 0 where

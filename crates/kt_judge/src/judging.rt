@@ -1,23 +1,23 @@
 //! Logs judged.
 
-ghost use Rattle.std.specs.Prelude.{◌≡◌, ◌^◌, ◌≤◌, None, Option, List, [], IfOk, IfErr, MatchBool, length, option_map, true};
-ghost use Rattle.kt_certify.specs.Faults.{IsWhyUnfit};
-ghost use Rattle.kt_certify.specs.declared.fault.CertFault.TheVariants as cert;
+ghost use Rattle.std.specs.Prelude.{◌≡◌, None, Option, List, IfOk, IfSome, MatchBool, option_map, true};
+ghost use Rattle.kt_certify.specs.Faults.{IsUnfit};
 ghost use Rattle.kt_chain.specs.declared.certificate.Certificate.{Certificate as Certificates};
 ghost use Rattle.kt_checker.specs.Order.{IsCheckerAnswer};
 ghost use Rattle.kt_checker.specs.declared.verdict.Verdict.{Verdict as Verdicts};
 ghost use Rattle.kt_checker.specs.declared.verdict.Verdict.TheVariants.{Yes};
 ghost use Rattle.kt_explain.specs.Told.{IsExplanation};
 ghost use Rattle.kt_spacetime.specs.declared.event.Event.{Event as Events};
-ghost use Rattle.kt_judge.specs.Judging.{IsAnswerBy, IsAtRest, IsBasis};
+ghost use Rattle.kt_judge.specs.Judging.{IsAnswerBy, IsAtRest, IsBasis, IsUnlinkedOr};
 
 use crate::answer::Answer;
+use crate::unfit::unfit_of;
 use kt_base::Memory;
-use kt_certify::{CertFault, Unfit, certify};
+use kt_certify::{Unfit, certify};
 use kt_chain::Certificate;
-use kt_checker::{Verdict, check};
-use kt_explain::{Explanation, Sought, explain, first_number};
-use kt_spacetime::{Event, SpaceTime};
+use kt_checker::{Verdict, Why, check};
+use kt_explain::{Explanation, explain};
+use kt_spacetime::SpaceTime;
 use std::alloc::Global;
 
 /// The answer to a log: what the checker says of it with these certificates, and what is told of that, where it is asked.
@@ -29,11 +29,11 @@ pub struct Judgement {
     pub explanation: Explanation,
 }
 
-// The certificates by which a log is judged; or none, where it means none, and why it means none.
+// The certificates by which a log is judged; or none, where none are named and it means none, and why.
 #[derive(Drop)]
 struct Basis {
     certificates: Vec<Certificate>,
-    unlinked: Option<Unfit>,
+    unfit: Option<Unfit>,
 }
 
 /// Judges a log by the certificates that are named, or else by those that it means. With `at_rest` one that leaves an instance
@@ -55,10 +55,10 @@ pub fn judge(
 {
     let basis = basis_of(alloc, log, named)?;
     let certificates = basis.certificates.as_slice();
-    let verdict = check(alloc, log, certificates)?;
+    let verdict = verdict_by(alloc, log, certificates, &basis.unfit)?;
     let is_sought = explains || at_rest;
     let explanation = explanation_if(is_sought, alloc, log, certificates, &verdict)?;
-    let answer = answer_by(basis.unlinked, verdict, &explanation, at_rest);
+    let answer = answer_by(unlinked(basis.unfit), verdict, &explanation, at_rest);
     Ok(Judgement {
         answer,
         certificates: basis.certificates,
@@ -74,49 +74,50 @@ fn basis_of(
     named: Option<Vec<Certificate>>,
 ) -> Result<Basis, Memory>
     ensures basis { IfOk result (λ basis. IsBasis log.now.rows (option_map (λ list. list.items) named)
-        basis.unlinked basis.certificates.items) }
+        basis.unfit basis.certificates.items) }
 {
     match named {
         Some(certificates) => Ok(Basis {
             certificates,
-            unlinked: None,
+            unfit: None,
         }),
         None => meant(alloc, log),
     }
 }
 
-// The certificates that a log means; none where it breaks a rule, and why it means none where that is no rule.
+// The certificates that a log means; or none, and why.
 fn meant(alloc: Global, log: &SpaceTime) -> Result<Basis, Memory>
-    ensures basis { IfOk result (λ basis. IsBasis log.now.rows None basis.unlinked basis.certificates.items) }
+    ensures basis { IfOk result (λ basis. IsBasis log.now.rows None basis.unfit basis.certificates.items) }
 {
-    let unlinked = match certify(alloc, log) {
-        Ok(certificates) => {
-            return Ok(Basis {
-                certificates,
-                unlinked: None,
-            });
-        }
-        Err(fault) => why_unlinked(log.rows(), fault)?,
-    };
-    Ok(Basis {
-        certificates: Vec::new(alloc),
-        unlinked,
-    })
+    match certify(alloc, log) {
+        Ok(certificates) => Ok(Basis {
+            certificates,
+            unfit: None,
+        }),
+        Err(fault) => Ok(Basis {
+            certificates: Vec::new(alloc),
+            unfit: Some(unfit_of(log.rows(), fault)?),
+        }),
+    }
 }
 
-// Why a log that is not fit means no certificates, if it breaks no rule; with the row that decides the instance.
-fn why_unlinked(rows: &[Event], fault: CertFault) -> Result<Option<Unfit>, Memory>
-    requires few { length rows.now ≤ 2 ^ 24 }
-    requires unfit { IsWhyUnfit rows.now fault }
-    ensures basis { IfOk result (λ why. IsBasis rows.now None why []) }
+// What the checker says of a log with certificates. That of one that breaks a rule is known once it means none.
+fn verdict_by(
+    alloc: Global,
+    log: &SpaceTime,
+    certificates: &[Certificate],
+    unfit: &Option<Unfit>,
+) -> Result<Verdict, Memory>
+    requires unfit { IfSome unfit.now (IsUnfit log.now.rows) }
+    ensures answer { IfOk result (IsCheckerAnswer log.now.rows certificates.now) }
 {
-    match fault {
-        CertFault::BadLog(..) => Ok(None),
-        CertFault::NoChain(inst, p) => match first_number(rows, &Sought::Decided(inst)) {
-            Some(row) => Ok(Some(Unfit::NoChain(inst, row, p))),
-            None => Ok(None),
-        },
-        CertFault::Memory => Err(Memory),
+    match *unfit {
+        Some(Unfit::BadLog(row, rule)) => Ok(Verdict::No {
+            inst: None,
+            row: Some(row),
+            why: Why::BadLog(rule),
+        }),
+        _ => check(alloc, log, certificates),
     }
 }
 
@@ -139,6 +140,20 @@ fn explanation_if(
     }
 }
 
+// Why a log means no certificates, if it breaks no rule.
+fn unlinked(unfit: Option<Unfit>) -> Option<Unfit>
+    ensures { (rows : List Events) (named : Option (List Certificates)) (list : List Certificates)
+        → IsBasis rows named unfit list → IsUnlinkedOr rows named result list }
+{
+    match unfit {
+        None => None,
+        Some(why) => match why {
+            Unfit::BadLog(..) => None,
+            Unfit::NoChain(..) => Some(why),
+        },
+    }
+}
+
 // The answer by the checker's, and by what the log leaves open, where that is asked.
 fn answer_by(
     unlinked: Option<Unfit>,
@@ -147,7 +162,7 @@ fn answer_by(
     at_rest: bool,
 ) -> Answer
     ensures { (rows : List Events) (named : Option (List Certificates)) (certificates : List Certificates)
-        → IsBasis rows named unlinked certificates
+        → IsUnlinkedOr rows named unlinked certificates
         → (at_rest ≡ true → IsExplanation rows certificates verdict explanation.now)
         → IsAnswerBy rows named at_rest certificates verdict result }
 {

@@ -10,23 +10,29 @@ use std::io::Read;
 /// empty, since none of their fields has the end of a line.
 #[derive(Drop)]
 pub struct RecordLines {
-    /// The line of each record, from 1.
-    pub of: Vec<u64>,
-    /// Whether there was no memory for one.
+    /// How many records it has.
+    pub count: usize,
+    /// Of each run of records that stand on lines next to one another the number of the first, from 0, and its line, from 1.
+    pub runs: Vec<(usize, u64)>,
+    /// Whether there was no memory for a run.
     pub is_short: bool,
     line: u64,
+    // The line after that of the last record.
+    next: u64,
     is_within: bool,
 }
 
 impl RecordLines {
     /// Those of no text yet.
     pub fn new(alloc: Global) -> RecordLines
-        ensures { result.of.items ≡ [] }
+        ensures { result.runs.items ≡ [] }
     {
         RecordLines {
-            of: Vec::new(alloc),
+            count: 0,
+            runs: Vec::new(alloc),
             is_short: false,
             line: 1,
+            next: 0,
             is_within: false,
         }
     }
@@ -48,11 +54,16 @@ impl RecordLines {
 
     // A byte of a record, which begins here if none has begun on the line.
     fn go_on(&mut self) {
-        if !self.is_within {
-            self.is_within = true;
-            let is_noted = self.of.push(self.line).is_ok();
+        if self.is_within {
+            return;
+        }
+        self.is_within = true;
+        if self.line != self.next {
+            let is_noted = self.runs.push((self.count, self.line)).is_ok();
             self.is_short = self.is_short || !is_noted;
         }
+        self.next = self.line.saturating_add(1);
+        self.count = self.count.saturating_add(1);
     }
 }
 

@@ -1,17 +1,18 @@
 //! Stored logs certified.
 
-ghost use Rattle.std.specs.Prelude.{◌≡◌, ◌≢◌, IfOk, IfErr, OnOk};
+ghost use Rattle.std.specs.Prelude.{◌≡◌, ◌≢◌, All, IfOk, IfErr, OnOk};
+ghost use Rattle.kt_chain.specs.Spelling.{HasShortChains};
 ghost use Rattle.kt_program.specs.declared.fault.AppFault.TheVariants as app;
-ghost use Rattle.kt_program.specs.Certified.{CertifiesTo, IsOfCertifying, IsTextOfCertificates, IsUncertified, LeavesCertified, StopsInCertificates, WritesCertificates};
+ghost use Rattle.kt_program.specs.Certified.{CertifiesTo, IsOfCertifying, IsTextOfCertificates, IsUncertified, LeavesCertified, StopsInCertificates, WritesCertificates, text_of_list};
 
 use crate::fault::{AppFailure, AppFault, Failure};
+use crate::judging::read_alone;
 use crate::outputs::{deliver, write_text};
 use crate::sources::{ReadFiles, Role, open_input};
-use crate::stored::told_of_log;
 use crate::told::Told;
-use kt_certify::{StreamFault, certify_rows};
-use kt_chain::write_certs;
-use kt_log_text::{Record, RowReader};
+use kt_certify::{certify, certify_stream};
+use kt_chain::{Certificate, write_certs};
+use kt_judge::{tell_unfit, unfit_of};
 use kt_shown::Input;
 use std::alloc::Global;
 use std::io::{Read, Write};
@@ -35,62 +36,69 @@ pub fn certify_bytes<L: Read + Drop, W: Write>(
     ensures stopped { IfErr result (λ e. e ≡ app.Write → StopsInCertificates (L.remaining log_reader)
         (W.contents writer.old) (W.contents writer.new)) }
 {
-    match certify_log(alloc, Input::new(log_reader, "")) {
-        Ok(text) => write_text(text.as_slice(), writer),
-        Err(failure) => Err(failure.fault),
-    }
+    let text = certify_log(alloc, Input::new(log_reader, ""))?;
+    write_text(text.as_slice(), writer)
 }
 
 // The text of the certificates of the log that an input tells.
 #[tactic(auto, using(crate::proofs::StoredLogs::uncertified))]
-fn certify_log<L: Read + Drop>(alloc: Global, log: Input<L>) -> Result<Vec<u8>, AppFailure>
+fn certify_log<L: Read + Drop>(alloc: Global, log: Input<L>) -> Result<Vec<u8>, AppFault>
+    ensures text { IfOk result (λ text. IsTextOfCertificates (L.remaining log.source) text.items) }
+    ensures fault { IfErr result (IsUncertified (L.remaining log.source)) }
+{
+    match certify_stream(alloc, log) {
+        Ok(certificates) => text_of_list(alloc, certificates.as_slice()),
+        Err(fault) => Err(AppFault::from(fault)),
+    }
+}
+
+// The same, of a log whose rows are kept, so that it is known what is told of one that has no certificates.
+fn certify_kept<L: Read + Drop>(alloc: Global, log: Input<L>) -> Result<Vec<u8>, AppFailure>
     ensures text { IfOk result (λ text. IsTextOfCertificates (L.remaining log.source) text.items) }
     ensures fault { IfErr result (λ failure. IsUncertified (L.remaining log.source) failure.fault) }
 {
-    let mut rows = RowReader::new(alloc, log)?;
-    let mut unfit = None;
-    match certify_rows(alloc, &mut rows, &mut unfit) {
-        Ok(certificates) => {
-            let mut text = Vec::new(alloc);
-            match write_certs(alloc, certificates.as_slice(), &mut text) {
-                Ok(()) => Ok(text),
-                Err(_) => Err(AppFailure::from(AppFault::Memory)),
-            }
-        }
+    let file = log.name;
+    let stored = read_alone(alloc, log)?;
+    match certify(alloc, &stored.log) {
+        Ok(certificates) => Ok(text_of_list(alloc, certificates.as_slice())?),
         Err(fault) => {
-            let told = told_of(&rows, &fault, &unfit);
+            let why = unfit_of(stored.log.rows(), fault)?;
+            let told = match tell_unfit(alloc, &stored.log, &stored.rows, why) {
+                Ok(told) => Told::unfit(file, told.lines.as_str()),
+                Err(_) => Told::Nothing,
+            };
             Err(AppFailure {
-                fault: AppFault::from(fault),
+                fault: AppFault::Unfit(why),
                 told,
             })
         }
     }
 }
 
-// What is told of a log that has no certificates: the record at which that was met.
-fn told_of<L: Read + Drop>(
-    rows: &RowReader<Input<L>>,
-    fault: &StreamFault,
-    unfit: &Option<Record>,
-) -> Told {
-    match fault {
-        StreamFault::Log(fault) => told_of_log(rows, fault),
-        StreamFault::Unfit(_) => match unfit {
-            Some(record) => Told::row(rows.source().name, record, u32::MAX),
-            None => Told::Nothing,
-        },
+// The text of certificates that can be written.
+fn text_of_list(alloc: Global, certificates: &[Certificate]) -> Result<Vec<u8>, AppFault>
+    requires short { All HasShortChains certificates.now }
+    ensures text { IfOk result (λ text. text.items ≡ text_of_list certificates.now) }
+    ensures fault { IfErr result (λ e. e ≡ app.Memory) }
+{
+    let mut text = Vec::new(alloc);
+    match write_certs(alloc, certificates, &mut text) {
+        Ok(()) => Ok(text),
+        Err(_) => Err(AppFault::Memory),
     }
 }
 
 /// Writes the certificates of the log in a file into the file that is named for them, else to `out`.
 ///
-/// Their file is made, or opened and emptied, once the log was found fit.
+/// Their file is made, or opened and emptied, once the log was found fit. With `hints` its rows are kept, so that what is wrong
+/// with it can be told.
 #[inline(never)]
 pub(crate) fn certify_files<F: Files, O: Write>(
     files: &F,
     alloc: Global,
     log: &str,
     cert: Option<&str>,
+    hints: bool,
     out: &mut O,
 ) -> Result<(), Failure>
     ensures certified { OnOk result (CertifiesTo F.File.remaining cert.entry (O.contents out.old) (O.contents out.new)) }
@@ -99,6 +107,10 @@ pub(crate) fn certify_files<F: Files, O: Write>(
 {
     let mut read = ReadFiles::none();
     let log = open_input(files, Role::Log, log, &mut read)?;
-    let text = certify_log(alloc, log)?;
+    let text = if hints {
+        certify_kept(alloc, log)?
+    } else {
+        certify_log(alloc, log)?
+    };
     deliver(files, &read, text.as_slice(), cert, out)
 }

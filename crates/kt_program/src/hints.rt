@@ -2,9 +2,7 @@
 
 use crate::fault::{AppFault, Failure, ProgramFault};
 use crate::told::{Attempt, Told, ToldRecord};
-use kt_certify::Unfit;
 use kt_chain::CertTextFault;
-use kt_cuts::Rule;
 use kt_log_text::LogFault;
 use kt_plans::Hindrance;
 use kt_shown::{certificate_form, row_form};
@@ -45,6 +43,13 @@ impl fmt::Display for Failure {
                 };
                 write_reason(f, fault, record, place.text.part((0, record.first)))
             }
+            Told::Unfit(file, [place, facts, more]) => {
+                writeln!(f, "  {file}{place}\n  {facts}")?;
+                if more.is_empty() {
+                    return Ok(());
+                }
+                writeln!(f, "  {more}")
+            }
             Told::Parts(unmerged) => write!(f, "{unmerged}"),
         }
     }
@@ -76,7 +81,7 @@ fn line_reason(fault: &ProgramFault, hindrance: Option<Hindrance>) -> &'static s
     }
 }
 
-// Writes what was expected of a record that begins with this word, or which rule it breaks.
+// Writes what was expected of a record that begins with this word.
 fn write_reason<W: fmt::Write>(
     f: &mut fmt::Formatter<W>,
     fault: &AppFault,
@@ -109,33 +114,6 @@ fn write_reason<W: fmt::Write>(
         AppFault::Cert(CertTextFault::TooLong) => {
             f.write_str("  there are at most 524288 records of certificates\n")
         }
-        AppFault::Unfit(why) => write_unfit(f, why),
         _ => Ok(()),
-    }
-}
-
-// Writes why a log has no certificates.
-fn write_unfit<W: fmt::Write>(f: &mut fmt::Formatter<W>, why: &Unfit) -> fmt::Result {
-    match why {
-        Unfit::BadLog(row, rule) => writeln!(f, "  row {row}, rule {rule}: {}", rule_name(*rule)),
-        Unfit::NoChain(inst, _, process) => writeln!(
-            f,
-            "  no message links process {process} with a member of instance {inst} that joined before it"
-        ),
-    }
-}
-
-// The name of a rule.
-fn rule_name(rule: Rule) -> &'static str {
-    match rule {
-        Rule::Numbers => "numbers",
-        Rule::Message => "message",
-        Rule::Order => "order",
-        Rule::Sending => "sending",
-        Rule::Receiving => "receiving",
-        Rule::Joining => "joining",
-        Rule::Deciding => "deciding",
-        Rule::Closing => "closing",
-        Rule::Causes => "causes",
     }
 }

@@ -5,6 +5,7 @@ ghost use Rattle.kt_checker.specs.Streamed.{SaysRows};
 ghost use Rattle.kt_judge.specs.Answers.{passes};
 ghost use Rattle.kt_judge.specs.declared.answer.Answer.{Answer as Answers};
 ghost use Rattle.kt_program.specs.declared.fault.AppFault.TheVariants as app;
+ghost use Rattle.kt_program.specs.Certified.{IsUncertified};
 ghost use Rattle.kt_program.specs.Ending.{IsOfJudging, LeavesAnswer};
 ghost use Rattle.kt_program.specs.Judging.{AnswersFiles, AreOfFiles, IsAnswered, Say};
 ghost use Rattle.kt_program.specs.Stored.{answer_text};
@@ -25,12 +26,12 @@ use std::fmt::Display;
 use std::io::{Read, Write};
 use std::rt::Files;
 
-// A log, the certificates that are named for it, and on which lines of their files the records begin.
+/// A log, the certificates that are named for it, and on which lines of their files the records begin.
 #[derive(Drop)]
-struct LogToJudge {
-    log: SpaceTime,
+pub(crate) struct LogToJudge {
+    pub(crate) log: SpaceTime,
     named: Option<Vec<Certificate>>,
-    rows: RecordLines,
+    pub(crate) rows: RecordLines,
     records: RecordLines,
 }
 
@@ -83,10 +84,14 @@ fn log_in<'a, F: Files>(
     Ok(stored)
 }
 
-// The log that an input tells.
-fn read_alone<L: Read + Drop>(alloc: Global, log: Input<L>) -> Result<LogToJudge, AppFailure>
+/// The log that an input tells.
+pub(crate) fn read_alone<L: Read + Drop>(
+    alloc: Global,
+    log: Input<L>,
+) -> Result<LogToJudge, AppFailure>
     ensures rows { IfOk result (λ stored. SaysRows (L.remaining log.source) stored.log.rows) }
     ensures named { IfOk result (λ stored. stored.named ≡ None) }
+    ensures fault { IfErr result (λ failure. IsUncertified (L.remaining log.source) failure.fault) }
 {
     let name = log.name;
     let mut rows = Numbered::new(alloc, log);
@@ -156,11 +161,13 @@ fn answer_to(alloc: Global, stored: LogToJudge, asked: &Judging<'_>) -> Result<A
         explanation: &judgement.explanation,
         rows: Lines {
             name: log_name.as_str(),
-            of: rows.of.as_slice(),
+            count: rows.count,
+            runs: rows.runs.as_slice(),
         },
         records: Lines {
             name: cert_name.as_str(),
-            of: records.of.as_slice(),
+            count: records.count,
+            runs: records.runs.as_slice(),
         },
     };
     let lines = lines_of(alloc, &told, asked.explains)?;

@@ -68,15 +68,17 @@ pub fn run_words<F: Files + Threads + Wait + Sync, O: Write, E: Write>(
     ensures { EndsOn words.now result (O.contents out.old) (O.contents out.new)
         (E.contents err.old) (E.contents err.new) }
 {
-    let outcome = carry_out(files, alloc, words, out);
-    end_told(hints || words.ask_for_hints(), outcome, err)
+    let hints = hints || words.ask_for_hints();
+    let outcome = carry_out(files, alloc, words, hints, out);
+    end_told(hints, outcome, err)
 }
 
-/// Does what these words ask, and writes the answer or the help to `out`.
+/// Does what these words ask, and writes the answer or the help to `out`; `hints` is true where what is wrong is told too.
 pub fn carry_out<F: Files + Threads + Wait + Sync, O: Write>(
     files: &F,
     alloc: Global,
     words: &Words,
+    hints: bool,
     out: &mut O,
 ) -> Result<Done, Failure>
     // What is done, or that the words are refused, is what clap's definition of the command line gives for them.
@@ -120,7 +122,7 @@ pub fn carry_out<F: Files + Threads + Wait + Sync, O: Write>(
             Err(failure) => Err(failure),
         },
         Ok(Asked::Certify { log, cert }) => {
-            certify_files(files, alloc, log, cert, out)?;
+            certify_files(files, alloc, log, cert, hints, out)?;
             Ok(Done::Certified)
         }
         Ok(Asked::Draw(picture)) => draw_files(files, alloc, &picture, out),

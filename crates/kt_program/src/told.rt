@@ -45,6 +45,8 @@ pub enum Told {
     Line(Place, Option<Hindrance>),
     /// A record of a log or of certificates.
     Record(Place, ToldRecord),
+    /// The file of a log that has no certificates, and what is told of the row for which it has none: where it stands, and facts.
+    Unfit(Shown, [Shown; 3]),
     /// Why parts have no log.
     Parts(Unmerged),
 }
@@ -93,6 +95,16 @@ impl Told {
             .split_once(" (os error ")
             .map_or(words, |(reason, _number)| reason);
         Told::Attempt(attempt, name, Shown::of(reason.as_bytes()))
+    }
+
+    /// What is told of a row of this file, line by line.
+    pub(crate) fn unfit(file: Shown, text: &str) -> Told {
+        let mut lines = text.lines();
+        let mut next = [Shown::new(); 3];
+        for shown in &mut next {
+            *shown = Shown::of(lines.next().unwrap_or("").as_bytes());
+        }
+        Told::Unfit(file, next)
     }
 
     /// The line of this number, from 1, of the text of a file, and what stands in the way of the step that it says.

@@ -62,7 +62,7 @@ pub(crate) fn add_words(words: &mut Words, line: &str) -> Result<(), Memory> {
 
 // Does what these words ask, and gives the exit status. A fault's line is shown.
 fn status_of<R: Host, O: Write>(rt: &R, words: &Words, out: &mut O) -> u8 {
-    let outcome = match carry_out(rt, rt.alloc(), words, out) {
+    let outcome = match carry_out(rt, rt.alloc(), words, false, out) {
         Ok(done) => Ok(done),
         Err(failure) => Err(failure.fault),
     };

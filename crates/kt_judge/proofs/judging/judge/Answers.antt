@@ -1,7 +1,11 @@
 use Rattle.std.proofs.Common.{List, subst}
 use Rattle.kt_chain.specs.declared.certificate.Certificate.{Certificate}
 use Rattle.kt_checker.specs.Order.{IsCheckerAnswer}
+use Rattle.kt_judge.proofs.Bases.{reason_of}
 use Rattle.kt_judge.proofs.judging.judge.Goals as goal
+
+pub verdict_by-requires : goal.verdict_by-requires
+verdict_by-requires c = record { unfit = reason_of c.args.log.now.rows _ c.in_ok-basis.basis.unfit _ c.in_ok-basis.ensures.basis }
 
 pub returns-clause-checked : goal.returns-clause-checked
 returns-clause-checked c =
