@@ -33,10 +33,11 @@ class Answer(NamedTuple):
 
 
 class Fault(Exception):
-    """Why there is no answer: what is wrong, in which text, from 1, and in which row or record."""
+    """Why there is no answer: what is wrong (of WHAT), in which text ("log", "certificate" or "part 0"), and at which place: its row
+    or record, from 1. Where a log has no certificates: the rule, or the instance and the process. 0 where nothing is named."""
 
     def __init__(self, text, what, place, rule, inst, process, parts=False):
-        self.what, self.place = WHAT[what], place
+        self.what, self.place, self.rule, self.inst, self.process = WHAT[what], place, rule, inst, process
         self.text = "" if not text else f"part {text - 1}" if parts else ("log", "certificate")[text - 1]
         if self.what in ("BadLog", "NoChain"):
             super().__init__(str(Answer(self.what, rule, inst, place, process)))
@@ -45,8 +46,6 @@ class Fault(Exception):
         else:
             where = f"{self.text} {'row' if self.text == 'log' else 'record'} {place}: " if place else ""
             super().__init__(where + self.what)
-
-
 
 
 class Text(ctypes.Structure):
@@ -110,6 +109,6 @@ def draw(log, certificates, first=0, last=0):
 
 
 def merge(parts):
-    """One log of the logs of processes 0, 1 and so on."""
+    """One log of the logs of processes 0, 1 and so on, a list of bytes."""
     texts = (Text * len(parts))(*((part, len(part)) for part in parts))
     return _text(_c.kt_merge, texts, len(parts), parts=True)
