@@ -82,7 +82,8 @@ enum kt_what {
 
 /* A fault. A number is 0 where nothing is named: where there is no fault all are. */
 typedef struct kt_fault {
-    uint32_t text;    /* in which text: 1 the log, 2 the certificates; of kt_merge the part of process 0, of process 1, and so on */
+    uint32_t text;    /* in which text: 1 the log, 2 the certificates; of kt_merge 1 the part of process 0, 2 that of process 1,
+                         and so on, and 65 of KT_WHAT_PARTS */
     uint32_t what;    /* of enum kt_what */
     uint32_t place;   /* the row of a log, or the record of certificates or of a part, from 1 */
     uint32_t rule;    /* of KT_WHAT_BAD_LOG, 1 to 9 */
@@ -117,7 +118,8 @@ uint32_t kt_certify(const uint8_t *log, size_t log_len, uint8_t *out, size_t out
 
 /* Judges a log with its certificates, and tells the facts of the answer, as `koo_toueg check --explain log certificates` prints
  * them: the line of the answer, and the lines below it, each ended by a line feed. KT_YES or KT_NO, as the answer is: out begins
- * with the text. The rest is as for kt_certify; a fault is as for kt_check. */
+ * with the text. The rest is as for kt_certify; a fault is as for kt_check. To explain a no of kt_judge, give it what kt_certify made, or
+ * an empty text where that answers KT_NO: the first line may then say Missing, and the lines below tell why. */
 uint32_t kt_explain(const uint8_t *log, size_t log_len, const uint8_t *certificates, size_t certificates_len,
                     uint8_t *out, size_t out_size, size_t *len, kt_fault *fault);
 
@@ -128,7 +130,8 @@ uint32_t kt_draw(const uint8_t *log, size_t log_len, const uint8_t *certificates
                  uint32_t to, uint8_t *out, size_t out_size, size_t *len, kt_fault *fault);
 
 /* Makes one log of the logs of processes 0, 1 and so on, count of them and at most 64, as `koo_toueg merge PART..` writes it. KT_YES:
- * out begins with the log. The rest is as for kt_certify, but for KT_NO; *fault says what is first wrong in the order of the log. */
+ * out begins with the log; of no parts it is a log without rows. The rest is as for kt_certify, but for KT_NO; *fault says what is
+ * first wrong in the order of the log. */
 uint32_t kt_merge(const kt_text *parts, size_t count, uint8_t *out, size_t out_size, size_t *len, kt_fault *fault);
 
 /* The version of the library's calls. It rises where a call, a struct or a number changes its meaning. */
