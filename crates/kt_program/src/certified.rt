@@ -36,23 +36,35 @@ pub fn certify_bytes<L: Read + Drop, W: Write>(
     ensures stopped { IfErr result (λ e. e ≡ app.Write → StopsInCertificates (L.remaining log_reader)
         (W.contents writer.old) (W.contents writer.new)) }
 {
-    let text = certify_log(alloc, Input::new(log_reader, ""))?;
-    write_text(text.as_slice(), writer)
-}
-
-// The text of the certificates of the log that an input tells.
-#[tactic(auto, using(crate::proofs::StoredLogs::uncertified))]
-fn certify_log<L: Read + Drop>(alloc: Global, log: Input<L>) -> Result<Vec<u8>, AppFault>
-    ensures text { IfOk result (λ text. IsTextOfCertificates (L.remaining log.source) text.items) }
-    ensures fault { IfErr result (IsUncertified (L.remaining log.source)) }
-{
-    match certify_stream(alloc, log) {
-        Ok(certificates) => text_of_list(alloc, certificates.as_slice()),
-        Err(fault) => Err(AppFault::from(fault)),
+    match certify_log(alloc, Input::new(log_reader, ""), false) {
+        Ok(text) => write_text(text.as_slice(), writer),
+        Err(failure) => Err(failure.fault),
     }
 }
 
-// The same, of a log whose rows are kept, so that it is known what is told of one that has no certificates.
+// The text of the certificates of the log that an input tells, whose rows are kept where that is asked.
+#[tactic(auto, using(crate::proofs::StoredLogs::uncertified))]
+fn certify_log<L: Read + Drop>(
+    alloc: Global,
+    log: Input<L>,
+    keeps: bool,
+) -> Result<Vec<u8>, AppFailure>
+    ensures text { IfOk result (λ text. IsTextOfCertificates (L.remaining log.source) text.items) }
+    ensures fault { IfErr result (λ failure. IsUncertified (L.remaining log.source) failure.fault) }
+{
+    if keeps {
+        return certify_kept(alloc, log);
+    }
+    match certify_stream(alloc, log) {
+        Ok(certificates) => Ok(text_of_list(alloc, certificates.as_slice())?),
+        Err(fault) => Err(AppFailure {
+            fault: AppFault::from(fault),
+            told: Told::Nothing,
+        }),
+    }
+}
+
+// The same, of rows that are kept, so that it is known what is told of a log that has no certificates.
 fn certify_kept<L: Read + Drop>(alloc: Global, log: Input<L>) -> Result<Vec<u8>, AppFailure>
     ensures text { IfOk result (λ text. IsTextOfCertificates (L.remaining log.source) text.items) }
     ensures fault { IfErr result (λ failure. IsUncertified (L.remaining log.source) failure.fault) }
@@ -107,10 +119,6 @@ pub(crate) fn certify_files<F: Files, O: Write>(
 {
     let mut read = ReadFiles::none();
     let log = open_input(files, Role::Log, log, &mut read)?;
-    let text = if hints {
-        certify_kept(alloc, log)?
-    } else {
-        certify_log(alloc, log)?
-    };
+    let text = certify_log(alloc, log, hints)?;
     deliver(files, &read, text.as_slice(), cert, out)
 }
