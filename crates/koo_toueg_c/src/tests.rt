@@ -100,7 +100,7 @@ fn merges(rt: HostRuntime) {
     let (mut fault, mut len, mut out) = (KtFault::none(), 0, [7; 100]);
     let parts: [&[u8]; 2] = [b"1,sent,0,1,5,m0.1\n", b"2,received,1,0,m0.1,-\n"];
     let done = kt_merge(rt.alloc(), &parts, &mut out, &mut len, &mut fault);
-    assert!(rt; done == 0 && fault.what == 0 && out[len] == 7);
+    assert!(rt; done == 0 && fault.what == 0 && len == 35 && out[len] == 7);
     assert!(rt; &out[..len] == b"kt,2,-,-\nsent,0,1,5\nreceived,1,0,1\n".as_slice());
     let short = kt_merge(rt.alloc(), &parts, &mut out[..9], &mut len, &mut fault);
     assert!(rt; short == 5 && len == 35);
