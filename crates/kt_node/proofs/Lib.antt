@@ -1,0 +1,9 @@
+pub mod Lists
+pub mod Processes
+pub mod Asks
+pub mod Settling
+pub mod Beginning
+pub mod Hearing
+pub mod Replying
+pub mod Messages
+pub mod Counts

@@ -1,0 +1,147 @@
+-- Messages received, held and taken, as the node's rules have it.
+use Rattle.std.specs.Prelude.{Option, Some, None, IfSome, IfNone, slice_get}
+use Rattle.std.proofs.Common.{◌≡◌, ◌∙◌, ℕ, ℤ, Bool, true, false, List, [], ◌∷◌, ◌++◌, drop, refl, sym, ap, subst}
+use Rattle.kt_cuts.specs.Past.{at_one}
+use Rattle.kt_fifo.specs.declared.parcels.Parcel.{Parcel}
+use Rattle.kt_fifo.specs.declared.parcels.Parcel.TheVariants as parcel
+use Rattle.kt_fifo.specs.Channels.{ChannelLists, channel, at_pair}
+use Rattle.kt_plan.specs.declared.steps.Act.TheVariants as answered
+use Rattle.kt_tables.specs.Calls.{received, Speaks}
+use Rattle.kt_seen.specs.Seen.{SeenProcess}
+use Rattle.kt_process.specs.ProcessStates.{ProcessState}
+use Rattle.kt_process.specs.Shown.{IsSeenAs}
+use Rattle.kt_names.specs.declared.rows.NamedEvent.TheVariants.{Received}
+use Rattle.kt_net.specs.declared.parcels.NodeParcel.{NodeParcel}
+use Rattle.kt_net.specs.declared.parcels.NodeParcel.TheVariants as put
+use Rattle.kt_net.specs.Nodes.{NodeLists, NodeState, Doing, with_one, is_in_rollback, Held}
+use Rattle.kt_net.specs.NodeMessages.{receiving, arriving, holding, taking_held}
+use Rattle.kt_net.specs.NodeSteps.{node_after, taking}
+use Rattle.kt_net.specs.Erasing.{erased_parcel, erased_parcels}
+use Rattle.kt_node.specs.declared.effects.Effects.{Effects}
+use Rattle.kt_node.specs.declared.effects.Parcels.TheVariants as puts
+use Rattle.kt_node.specs.Managers.{ManagerState, ShowsNode, IsSameManager, no_name, process_of}
+use Rattle.kt_node.specs.Effects.{IsDone}
+use Rattle.kt_node.specs.declared.faults.ManagerFault.TheVariants as fault
+use Rattle.kt_node.specs.Faults.{held_fault, first_held}
+use Rattle.kt_node.proofs.Lists.{pushed, popped, holds_turned, turned_same}
+
+-- but for spare room it is as it was
+pub shows_same : (v w : ManagerState) (y : NodeState) → IsSameManager v w → ShowsNode w y → ShowsNode v y
+shows_same v w y s h = record {
+  holds = holds_turned v w y (turned_same v w s) h.holds;
+  process = subst (λ (x : ProcessState). IsSeenAs x (process_of y)) (sym s.process) h.process;
+  inst = s.inst ∙ h.inst;
+}
+
+-- who is up keeps the message
+pub receives : (w : ManagerState) (x : ProcessState) (b : ChannelLists) (y : NodeState) (from label : ℕ) (body : ℤ) → ShowsNode w y → w.process.up ≡ true
+    → channel b ≡ at_pair from w.me (channel w.kept from w.me ++ parcel.App label 1 body ∷ []) (channel w.kept)
+    → ((z : SeenProcess) → IsSeenAs w.process z → Speaks (z.calls ++ received from label ∷ []) → IsSeenAs x (record z { calls = z.calls ++ received from label ∷ [] }))
+    → Speaks ((arriving y from label body).state.calls)
+    → IsDone (record w { process = x; kept = b }) (record { rows = Some (Received from label) ∷ None ∷ None ∷ None ∷ []; acts = answered.Apply from body ∷ answered.Nothing ∷ []; parcels = puts.Nothing }) (arriving y from label body)
+receives w x b y from label body h up e f speaks =
+    let u : y.up ≡ true = sym h.process.up ∙ up in
+    let is : receiving y from label body ≡ arriving y from label body = rw u refl in
+    subst (λ (d : Doing). IsDone (record w { process = x; kept = b }) (record { rows = Some (Received from label) ∷ None ∷ None ∷ None ∷ []; acts = answered.Apply from body ∷ answered.Nothing ∷ []; parcels = puts.Nothing }) d) is
+    (record {
+      state = record {
+        holds = record {
+          processes = h.holds.processes;
+          me = h.holds.me;
+          begun = h.holds.begun;
+          held = h.holds.held;
+          kept = pushed (channel w.kept) (channel b) from w.me (parcel.App label 1 body) e ∙ ap (λ (l : NodeLists). with_one from (put.App label body) l) h.holds.kept;
+        };
+        process = f (process_of y) h.process (subst (λ (d : Doing). Speaks d.state.calls) (sym is) speaks);
+        inst = h.inst;
+      };
+      puts = λ q. refl;
+      rows = refl;
+      acts = refl;
+    })
+
+-- who is in a rollback holds it
+pub shows_holding : (w : ManagerState) (b : ChannelLists) (y : NodeState) (from label : ℕ) (body : ℤ) → ShowsNode w y
+    → channel b ≡ at_pair from w.me (channel w.held from w.me ++ parcel.App label 1 body ∷ []) (channel w.held) → ShowsNode (record w { held = b }) (holding y from (put.App label body)).state
+shows_holding w b y from label body h e = record {
+  holds = record {
+    processes = h.holds.processes;
+    me = h.holds.me;
+    begun = h.holds.begun;
+    held = pushed (channel w.held) (channel b) from w.me (parcel.App label 1 body) e ∙ ap (λ (l : NodeLists). with_one from (put.App label body) l) h.holds.held;
+    kept = h.holds.kept;
+  };
+  process = h.process;
+  inst = h.inst;
+}
+
+pub done_holding : (w : ManagerState) (e : Effects) (y : NodeState) (from label : ℕ) (body : ℤ) (able : Bool) → is_in_rollback y ≡ true
+    → IsDone w e (holding y from (put.App label body)) → IsDone w e (taking y from able (put.App label body))
+done_holding w e y from label body able r d = rw r d
+
+takes_arriving : (y : NodeState) (from label : ℕ) (body : ℤ) (able : Bool) → is_in_rollback y ≡ false → arriving y from label body ≡ taking y from able (put.App label body)
+takes_arriving y from label body able e = rw e refl
+
+pub done_arriving : (w : ManagerState) (e : Effects) (y : NodeState) (from label : ℕ) (body : ℤ) (able : Bool) → is_in_rollback y ≡ false → Speaks ((taking y from able (put.App label body)).state.calls)
+    → (Speaks ((arriving y from label body).state.calls) → IsDone w e (arriving y from label body)) → IsDone w e (taking y from able (put.App label body))
+done_arriving w e y from label body able r speaks f =
+    let is = takes_arriving y from label body able r in
+    subst (λ (d : Doing). IsDone w e d) is (f (subst (λ (d : Doing). Speaks d.state.calls) (sym is) speaks))
+
+-- once the first message that is held has gone
+pub shows_popped : (w : ManagerState) (b : ChannelLists) (y : NodeState) (from : ℕ) → ShowsNode w y → channel b ≡ at_pair from w.me (drop 1 (channel w.held from w.me)) (channel w.held)
+    → ShowsNode (record w { held = b }) (record y { held = at_one from (drop 1 (y.held from)) y.held })
+shows_popped w b y from h e = record {
+  holds = record {
+    processes = h.holds.processes;
+    me = h.holds.me;
+    begun = h.holds.begun;
+    held = popped (channel w.held) (channel b) from w.me e ∙ ap (λ (l : NodeLists). at_one from (drop 1 (l from)) l) h.holds.held;
+    kept = h.holds.kept;
+  };
+  process = h.process;
+  inst = h.inst;
+}
+
+takes_held : (y : NodeState) (from label : ℕ) (body : ℤ) (rest : List NodeParcel) → is_in_rollback y ≡ false → y.held from ≡ put.App label body ∷ rest → arriving (record y { held = at_one from rest y.held }) from label body ≡ node_after y (Held from)
+takes_held y from label body rest e f = rw e (ap (λ (l : List NodeParcel). taking_held y from l) (sym f))
+
+pub done_held : (w : ManagerState) (e : Effects) (y : NodeState) (from label : ℕ) (body : ℤ) (rest : List NodeParcel) → is_in_rollback y ≡ false → y.held from ≡ put.App label body ∷ rest → Speaks ((node_after y (Held from)).state.calls)
+    → (Speaks ((arriving (record y { held = at_one from rest y.held }) from label body).state.calls) → IsDone w e (arriving (record y { held = at_one from rest y.held }) from label body)) → IsDone w e (node_after y (Held from))
+done_held w e y from label body rest r front speaks f =
+    let is = takes_held y from label body rest r front in
+    subst (λ (d : Doing). IsDone w e d) is (f (subst (λ (d : Doing). Speaks d.state.calls) (sym is) speaks))
+
+-- the first one that is held
+front_of : (l : List Parcel) (x : Parcel) → Some x ≡ slice_get l 0 → erased_parcels no_name l ≡ erased_parcel no_name x ∷ drop 1 (erased_parcels no_name l)
+front_of [] x e = absurd (cc (e))
+front_of (z ∷ l) x e = let i : x ≡ z = cc in ap (λ (u : Parcel). erased_parcel no_name u ∷ erased_parcels no_name l) (sym i)
+
+held_front : (w v : ManagerState) → w ≡ v → (y : NodeState) (from : ℕ) (x : Parcel) → ShowsNode v y → Some x ≡ slice_get (channel w.held from w.me) 0 → y.held from ≡ erased_parcel no_name x ∷ drop 1 (y.held from)
+held_front w v i y from x h e =
+    let k = subst (λ (u : ManagerState). ShowsNode u y) (sym i) h in
+    subst (λ (l : NodeLists). l from ≡ erased_parcel no_name x ∷ drop 1 (l from)) k.holds.held (front_of (channel w.held from w.me) x e)
+
+pub front_some : (w v : ManagerState) → w ≡ v → (from : ℕ) (x : Parcel) (o : Option (ℕ × ℤ)) → Some x ≡ slice_get (channel w.held from w.me) 0
+    → IfSome o (λ m. erased_parcel no_name x ≡ put.App m.0 m.1) → IfSome o (λ m. (y : NodeState) → ShowsNode v y → y.held from ≡ put.App m.0 m.1 ∷ drop 1 (y.held from))
+front_some w v i from x None e s = s
+front_some w v i from x (Some m) e s = λ y h. held_front w v i y from x h e ∙ ap (λ (z : NodeParcel). z ∷ drop 1 (y.held from)) s
+
+pub front_taken : (w v : ManagerState) → w ≡ v → (from : ℕ) (x : Parcel) (o : Option (ℕ × ℤ)) → Some x ≡ slice_get (channel w.held from w.me) 0
+    → IfSome o (λ m. held_fault (erased_parcel no_name x) ≡ None) → IfSome o (λ m. (y : NodeState) → ShowsNode v y → first_held (y.held from) ≡ None)
+front_taken w v i from x None e s = s
+front_taken w v i from x (Some m) e s = λ y h. ap first_held (held_front w v i y from x h e) ∙ s
+
+pub front_none : (w v : ManagerState) → w ≡ v → (from : ℕ) (x : Parcel) (o : Option (ℕ × ℤ)) → Some x ≡ slice_get (channel w.held from w.me) 0
+    → IfNone o (held_fault (erased_parcel no_name x) ≡ Some fault.HoldsNone) → IfNone o ((y : NodeState) → ShowsNode v y → first_held (y.held from) ≡ Some fault.HoldsNone)
+front_none w v i from x None e s = λ y h. ap first_held (held_front w v i y from x h e) ∙ s
+front_none w v i from x (Some m) e s = s
+
+none_of : (l : List Parcel) → None ≡ slice_get l 0 → erased_parcels no_name l ≡ []
+none_of [] e = refl
+none_of (z ∷ l) e = absurd (cc (e))
+
+pub held_none : (w v : ManagerState) → w ≡ v → (from : ℕ) → None ≡ slice_get (channel w.held from w.me) 0 → (y : NodeState) → ShowsNode v y → first_held (y.held from) ≡ Some fault.HoldsNone
+held_none w v i from e y h =
+    let k = subst (λ (u : ManagerState). ShowsNode u y) (sym i) h in
+    ap first_held (sym (ap (λ (l : NodeLists). l from) k.holds.held) ∙ none_of (channel w.held from w.me) e)

@@ -1,0 +1,41 @@
+use Rattle.std.proofs.Common.{◌∙◌, ◌+◌, [], ◌∷◌, sym, ap, ap₂, subst}
+use Rattle.std.specs.Prelude.{Option, None}
+use Rattle.kt_base.specs.declared.words.Verb.{Verb}
+use Rattle.kt_parts.specs.declared.actions.Action.{Action}
+use Rattle.kt_seen.specs.SeenJoining.{no_note}
+use Rattle.kt_process.specs.Shown.{BeginsAs, IsProcessJoined, label_by}
+use Rattle.kt_names.specs.declared.names.InstName.{InstName}
+use Rattle.kt_names.specs.declared.rows.NamedCause.{NamedCause}
+use Rattle.kt_names.specs.declared.rows.NamedEvent.TheVariants.{Began}
+use Rattle.kt_net.specs.Nodes.{Doing}
+use Rattle.kt_net.specs.NodeClosing.{settling}
+use Rattle.kt_net.specs.NodeMessages.{refusing}
+use Rattle.kt_node.specs.Effects.{IsDone}
+use Rattle.kt_node.specs.Managers.{ManagerState, HoldsFor, process_of}
+use Rattle.kt_node.specs.Turns.{able_in, marks_in, named_cause, joined_in}
+use Rattle.kt_node.proofs.Beginning.{go_joined, joined_begun, joined_node, refuses, begins}
+use Rattle.kt_node.proofs.Lists.{holds_begun}
+use Rattle.kt_node.proofs.manager.Manager.begun.Goals as goal
+
+pub returns-in-Refuse : goal.returns-in-Refuse
+returns-in-Refuse c = λ y able h i e s.
+    let kind = c.args.kind in
+    let why = c.in-Refuse.cause in
+    let t = subst (λ (a : Action). BeginsAs kind (able_in kind able) y.processes 1 (marks_in kind y) (process_of y) c.args.self.now.process a) c.in-Refuse.is s in
+    let d = c.refusal.ensures c.args.self.now y (record { holds = h; process = t.1; inst = i }) in
+    subst (λ (d : Doing). IsDone c.args.self.now c.refusal.result d)
+    (ap₂ (λ (v : Verb) (n : NamedCause). refusing y v n) c.verb_of.ensures (c.named.ensures ∙ ap (λ (o : Option InstName). named_cause o why) i) ∙ refuses y y.inst kind able why t.0) d
+
+pub returns-in-Join : goal.returns-in-Join
+returns-in-Join c = λ y able h i e s.
+    let kind = c.args.kind in
+    let inst = c.args.inst.now in
+    let asks = c.in-Join.ask in
+    let goes = c.in-Join.goes in
+    let t = subst (λ (a : Action). BeginsAs kind (able_in kind able) y.processes 1 (marks_in kind y) (process_of y) c.args.self.now.process a) c.in-Join.is s in
+    let z = record y { begun = y.begun + 1 } in
+    let hi = subst (λ (w : ManagerState). HoldsFor w y) (sym c.self.view_is) h in
+    let joined = subst (λ (w : ManagerState). IsProcessJoined kind y.processes 1 None (marks_in kind y) no_note (process_of y) w.process asks goes) (sym c.self.view_is) t.1 in
+    subst (λ (d : Doing). IsDone c.join.new.self c.join.result d)
+    (ap (λ (k : InstName). settling k (joined_in k kind (label_by kind y.calls) (Began k kind ∷ []) (joined_node kind k None no_note z))) e ∙ begins y y.inst kind able t.0)
+    (go_joined kind inst None no_note z _ asks goes (Began inst kind ∷ []) (λ (d : Doing). IsDone c.join.new.self c.join.result d) c.join.ensures (holds_begun _ y hi) (joined_begun kind y (y.begun + 1) c.self.inside.process asks goes joined))

@@ -1,0 +1,22 @@
+use Rattle.std.proofs.Common.{refl, ap}
+use Rattle.kt_process.specs.Shown.{inst_shown, part_shown}
+use Rattle.kt_seen.specs.Seen.{SeenLists}
+use Rattle.kt_node.proofs.Lists.{column}
+use Rattle.kt_node.proofs.manager.Manager.new.Goals as goal
+
+pub returns : goal.returns
+returns c =
+    let f = c.in_ok-new.ensures in
+    record {
+      shows = record {
+        holds = record {
+          processes = refl;
+          me = refl;
+          begun = refl;
+          held = ap (λ (l : SeenLists). column l c.args.me) c.in_ok-new-2.ensures.lists;
+          kept = ap (λ (l : SeenLists). column l c.args.me) c.in_ok-new-3.ensures.lists;
+        };
+        process = record { stands = f.stands; inst = ap inst_shown f.side; part = ap part_shown f.side; up = f.up; used = f.used };
+        inst = refl;
+      };
+    }

@@ -1,0 +1,19 @@
+use Rattle.std.proofs.Common.{ℤ, sym, subst, ap}
+use Rattle.std.specs.Int.{w64}
+use Rattle.std.proofs.lemmas.Int.{to_z-of_z}
+use Rattle.kt_tables.specs.Calls.{Speaks}
+use Rattle.kt_net.specs.Nodes.{Send}
+use Rattle.kt_net.specs.NodeSteps.{node_after}
+use Rattle.kt_node.specs.Effects.{IsDone}
+use Rattle.kt_node.specs.Links.{NodeLinks}
+use Rattle.kt_node.specs.Managers.{ShowsNode}
+use Rattle.kt_node.proofs.Counts.{step_of}
+use Rattle.kt_node.proofs.node.Node.send.Goals as goal
+
+pub returns-clause-done : goal.returns-clause-done
+returns-clause-done c = λ y h speaks.
+    let i = subst (λ (w : NodeLinks). ShowsNode w.manager y) (sym c.self.view_is) h in
+    let e = c.in_ok-effects.effects in
+    let done = subst (λ (b : ℤ). Speaks ((node_after y (Send c.args.to b)).state.calls) → IsDone c.send.new.self e (node_after y (Send c.args.to b))) (to_z-of_z w64 c.args.body c.ranges.body) (c.in_ok-effects.ensures.done y i) in
+    let put = c.put.ensures in
+    step_of c.args.self.now c.put.new.self c.send.new.self c.self.inside.sent 0 c.in_ok-clock.clock (node_after y (Send c.args.to c.args.body)) e c.put.result (done speaks) c.in_ok-clock.ensures.ok put.manager put.clock (ap (λ (w : NodeLinks). w.sent) c.self.view_is) put.sent put.effects put.told put.numbers

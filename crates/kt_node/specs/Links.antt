@@ -1,0 +1,65 @@
+-- A manager whose parcels have numbers and whose steps have clocks.
+use Rattle.std.specs.Prelude.{◌≡◌, ◌+◌, ◌-◌, ◌^◌, ◌<◌, ◌≤◌, ℕ, max, Option, None, Result, Ok, Err, List, length, slice_index}
+use Rattle.kt_cuts.specs.Past.{at_one}
+use Rattle.kt_net.specs.Nodes.{Doing}
+use Rattle.kt_node.specs.declared.node.Output.{Output}
+use Rattle.kt_node.specs.declared.node.Taken.{Taken}
+use Rattle.kt_node.specs.declared.node.Taken.TheVariants.{Step, Again}
+use Rattle.kt_node.specs.Managers.{ManagerState, IsSameManager}
+use Rattle.kt_node.specs.Effects.{IsDone}
+use Rattle.kt_node.specs.declared.faults.ManagerFault.{ManagerFault}
+use Rattle.kt_node.specs.declared.node.NodeFault.{NodeFault}
+use Rattle.kt_node.specs.declared.node.NodeFault.TheVariants as fault
+use Rattle.kt_node.specs.Faults.{but_memory}
+
+-- its clock, and how many parcels it put for each process and took of each
+pub record NodeLinks : Type 0 where
+  pub manager : ManagerState
+  pub clock : ℕ
+  pub sent : List ℕ
+  pub taken : List ℕ
+
+-- each parcel that was put or taken took a step of its own
+pub record AreCounted (w : NodeLinks) : Type 0 where
+  pub clock : w.clock < 2 ^ 64 - 1
+  pub sent : (q : ℕ) → slice_index w.sent q ≤ w.clock
+  pub taken : (q : ℕ) → slice_index w.taken q ≤ w.clock
+
+-- a step with the clock that follows its own and that of what came: it does this, its parcels have the next numbers
+pub record IsStep (old new : NodeLinks) (came : ℕ) (d : Doing) (out : Output) : Type 0 where
+  pub done : IsDone new.manager out.effects d
+  pub clock : new.clock ≡ max old.clock came + 1
+  pub told : out.clock ≡ new.clock
+  pub sent : (q : ℕ) → q < 64 → slice_index new.sent q ≡ slice_index old.sent q + length (d.puts q)
+  pub numbers : out.numbers ≡ new.sent
+
+-- the same node, but for spare room
+pub record IsSameNode (new old : NodeLinks) : Type 0 where
+  pub manager : IsSameManager new.manager old.manager
+  pub clock : new.clock ≡ old.clock
+  pub sent : new.sent ≡ old.sent
+  pub taken : new.taken ≡ old.taken
+
+-- the next parcel of a process is taken, and an earlier one changes nothing
+abbrev pub TakesNext : NodeLinks → NodeLinks → ℕ → ℕ → Taken → Type 0
+TakesNext old new from number (Step out) = (number ≡ slice_index old.taken from + 1) × ((q : ℕ) → slice_index new.taken q ≡ at_one from number (slice_index old.taken) q)
+TakesNext old new from number Again = (number ≤ slice_index old.taken from) × (new ≡ old)
+
+-- a parcel that makes a step makes this one
+abbrev pub IsUntaken : Taken → (Output → Type 0) → Type 0
+IsUntaken (Step out) P = P out
+IsUntaken Again P = Unit {0}
+
+-- a call is refused exactly so, but for the clock and memory
+abbrev pub IsNodeRefusedAs : Option ManagerFault → Result Output NodeFault → Type 0
+IsNodeRefusedAs o (Ok out) = o ≡ None
+IsNodeRefusedAs o (Err (fault.Manager f)) = o ≡ but_memory f
+IsNodeRefusedAs o (Err fault.ClockSpent) = Unit {0}
+IsNodeRefusedAs o (Err (fault.Gap n)) = ⊥
+
+abbrev pub IsParcelRefusedAs : Option ManagerFault → Result Taken NodeFault → Type 0
+IsParcelRefusedAs o (Ok (Step out)) = o ≡ None
+IsParcelRefusedAs o (Ok Again) = Unit {0}
+IsParcelRefusedAs o (Err (fault.Manager f)) = o ≡ but_memory f
+IsParcelRefusedAs o (Err fault.ClockSpent) = Unit {0}
+IsParcelRefusedAs o (Err (fault.Gap n)) = Unit {0}

@@ -1,0 +1,84 @@
+-- What a manager does by what its process answers.
+use Rattle.std.specs.Prelude.{◌≡◌, ◌==◌, ℕ, if◌then◌else◌, Bool, true, Option, Some, None, List, [], ◌∷◌, ◌++◌, length}
+use Rattle.kt_base.specs.declared.words.Cause.{Cause}
+use Rattle.kt_base.specs.declared.words.Cause.TheVariants as cause
+use Rattle.kt_base.specs.declared.words.Kind.{Kind}
+use Rattle.kt_base.specs.declared.words.Kind.TheVariants.{Checkpoint, Rollback}
+use Rattle.kt_parts.specs.declared.actions.Action.{Action}
+use Rattle.kt_parts.specs.declared.actions.Action.TheVariants.{Nothing, Refuse, Join, Reply, Settle}
+use Rattle.kt_parts.specs.declared.actions.Then.{Then}
+use Rattle.kt_parts.specs.declared.actions.Then.TheVariants.{Wait, Commit}
+use Rattle.kt_process.specs.ProcessStates.{is_ready}
+use Rattle.kt_process.specs.Shown.{no_mark}
+use Rattle.kt_seen.specs.SeenJoining.{part_after_ask}
+use Rattle.kt_names.specs.declared.names.InstName.{InstName}
+use Rattle.kt_names.specs.declared.rows.NamedCause.{NamedCause}
+use Rattle.kt_names.specs.declared.rows.NamedCause.TheVariants.{Busy, Down, NoSave}
+use Rattle.kt_names.specs.declared.rows.NamedEvent.{NamedEvent}
+use Rattle.kt_names.specs.declared.rows.NamedEvent.TheVariants.{Took, Ready, Unwilling, Decided}
+use Rattle.kt_net.specs.declared.parcels.NodeParcel.TheVariants as put
+use Rattle.kt_seen.specs.SeenReplies.{part_after_reply}
+use Rattle.kt_net.specs.Nodes.{NodeState, Doing, nothing, putting, with_one}
+use Rattle.kt_net.specs.NodeClosing.{closing}
+use Rattle.kt_net.specs.NodeSteps.{is_in}
+use Rattle.kt_system.specs.ShownActs.{acts_joining}
+use Rattle.kt_node.specs.Managers.{ManagerState, HasBack}
+
+-- whether its object can be saved counts in a checkpoint, and so do marks
+abbrev pub able_in : Kind → Bool → Bool
+able_in Checkpoint able = able
+able_in Rollback able = true
+
+abbrev pub marks_in : Kind → NodeState → ℕ → ℕ
+marks_in Checkpoint y = λ q. length (y.kept q)
+marks_in Rollback y = no_mark
+
+-- who joins asks nobody where it goes on at once, and may close at once
+pub record CanGoOn (w : ManagerState) (asks : List (ℕ × ℕ)) (goes : Then) : Type 0 where
+  pub alone : (goes ≡ Wait → ⊥) → asks ≡ []
+  pub back : goes ≡ Commit → is_ready w.process.side ≡ true → HasBack w
+
+abbrev pub CanFollow : ManagerState → Action → Type 0
+CanFollow w (Join asks goes) = CanGoOn w asks goes
+CanFollow w action = Unit {0}
+
+-- the instance that a process is busy with is its own
+abbrev pub named_cause : Option InstName → Cause → NamedCause
+named_cause (Some name) (cause.Busy k) = Busy name
+named_cause None (cause.Busy k) = Down
+named_cause inst cause.Down = Down
+named_cause inst cause.NoSave = NoSave
+
+abbrev pub unwilling_row : InstName → Option InstName → Option Cause → Option NamedEvent
+unwilling_row k inst None = None
+unwilling_row k inst (Some cause) = Some (Unwilling k (named_cause inst cause))
+
+abbrev pub joined_row : InstName → Kind → NamedEvent
+joined_row k Checkpoint = Took k
+joined_row k Rollback = Ready k
+
+-- a node that has joined k, with these rows told before, and asks
+abbrev pub joined_in : InstName → Kind → (ℕ → ℕ) → List NamedEvent → NodeState → Doing
+joined_in k kind label rows y = record {
+  state = y;
+  puts = putting y.part.asked (λ q. put.Ask k kind (label q)) (λ q. []);
+  rows = rows ++ joined_row k kind ∷ [];
+  acts = acts_joining kind;
+}
+
+-- a node after an ask of q to join k that it replies to
+abbrev pub heard_in : Kind → ℕ → InstName → ℕ → NodeState → NodeState
+heard_in Checkpoint q k label y = y
+heard_in Rollback q k label y = if is_in y.inst k then record y { part = part_after_ask y.part q label } else y
+
+-- a node after a reply that it may await
+abbrev pub counted_in : Bool → NodeState → NodeState
+counted_in willing y = if y.part.awaited == 0 then y else record y { part = part_after_reply y.part willing }
+
+-- what follows from a reply: its own one, or the decision
+abbrev pub gone_on : InstName → NodeState → Action → Doing
+gone_on k y (Reply to willing why) = record (nothing y) { puts = with_one to (put.Reply k willing) (λ q. []) }
+gone_on k y (Settle commit tell) = closing k commit (record (nothing y) { rows = Decided k commit ∷ [] })
+gone_on k y Nothing = nothing y
+gone_on k y (Refuse why) = nothing y
+gone_on k y (Join asks goes) = nothing y

@@ -1,0 +1,21 @@
+//! One process's manager as a value that any program can hold: by names of its own, with no world around it.
+//!
+//! A manager opens nothing and waits for nobody. What comes in is a command or a parcel; what goes out are rows, acts and
+//! parcels. How parcels travel, and where the rows and the object are kept, is the caller's. A node is a manager whose
+//! parcels have numbers, by which it tests that they come once and in order, and whose steps have clocks. That a parcel of a
+//! process with a number is the one that this process put is its caller's to see to.
+//!
+//! **What to change where:** what a manager holds `manager.rt`; messages and failures `manager/messages.rt`; beginning,
+//! joining and closing `manager/instances.rt`; any parcel `manager/parcels.rt`; what a step puts out `effects.rt`; when a
+//! call is refused `faults.rt`, `specs/Faults`; numbers and clocks `node.rt`, `specs/Links`.
+#![tactic(auto)]
+
+mod effects;
+mod faults;
+mod manager;
+mod node;
+
+pub use effects::{Effects, Parcels};
+pub use faults::ManagerFault;
+pub use manager::Manager;
+pub use node::{Envelope, Node, NodeFault, Output, Taken};

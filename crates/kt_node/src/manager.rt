@@ -1,0 +1,176 @@
+//! A manager: what it holds, and what can be read of it.
+
+ghost use Rattle.std.specs.Prelude.{◌≡◌, ◌<◌, ◌≤◌, ℕ, true, false, Some, None, IfOk, IfErr, IfSome, IfNone, OnOk};
+ghost use Rattle.kt_process.specs.ProcessStates.{is_ready};
+ghost use Rattle.kt_net.specs.Nodes.{NodeState, is_in_rollback};
+ghost use Rattle.kt_net.specs.NodeSteps.{is_in, is_one};
+ghost use Rattle.kt_net.specs.Nets.{opening_net, has_some};
+ghost use Rattle.kt_node.specs.Managers.{ShowsNode, HasBack, IsSameManager, number_for};
+ghost use Rattle.kt_node.specs.Faults.{stranger};
+
+use crate::faults::ManagerFault;
+use kt_base::{InstNo, Label, Memory, ProcNo};
+use kt_fifo::Channels;
+use kt_lists::make_room_back;
+use kt_names::InstName;
+use kt_process::Process;
+use std::alloc::Global;
+use std::marker::Model;
+
+mod instances;
+mod messages;
+mod parcels;
+
+/// One process's manager, by names of its own.
+#[derive(Drop)]
+pub struct Manager {
+    size: usize,
+    me: ProcNo,
+    process: Process,
+    inst: Option<InstName>,
+    begun: u64,
+    held: Channels,
+    kept: Channels,
+}
+
+impl Model for Manager {
+    ghost use Rattle.kt_node.specs.Managers.{ManagerState, IsSoundManager};
+
+    ghost Value = { ManagerState };
+
+    ghost view = { λ m. record { size = m.size; me = m.me; process = m.process; inst = m.inst; begun = m.begun; held = m.held; kept = m.kept } };
+
+    ghost invariant = { λ m. IsSoundManager (record { size = m.size; me = m.me; process = m.process; inst = m.inst; begun = m.begun; held = m.held; kept = m.kept }) };
+}
+
+impl Manager {
+    /// The manager of a process among so many, at most 64, that is up and has done nothing; its labels go on after this one.
+    pub fn new(alloc: Global, me: ProcNo, processes: usize, used: Label) -> Result<Manager, Memory>
+        requires me { me < processes }
+        requires few { processes ≤ 64 }
+        ensures shows { IfOk result (λ m. ShowsNode m ((opening_net processes used).nodes me)) }
+    {
+        Ok(Manager {
+            size: processes,
+            me,
+            process: Process::new(alloc, processes, used)?,
+            inst: None,
+            begun: 0,
+            held: Channels::new(alloc, processes)?,
+            kept: Channels::new(alloc, processes)?,
+        })
+    }
+
+    /// The open instance that it is in.
+    pub fn in_inst(&self) -> Option<InstName>
+        ensures { result ≡ self.now.inst }
+    {
+        self.inst
+    }
+
+    /// Whether its object is up.
+    pub fn is_up(&self) -> bool
+        ensures { result ≡ self.now.process.up }
+    {
+        self.process.is_up()
+    }
+
+    /// Whether it is in a rollback.
+    pub fn is_in_rollback(&self) -> bool
+        ensures { (y : NodeState) → ShowsNode self.now y → result ≡ is_in_rollback y }
+    {
+        self.inst.is_some() && self.process.is_ready()
+    }
+
+    /// Whether it is in this instance.
+    fn is_in(&self, inst: &InstName) -> bool
+        ensures { result ≡ is_in self.now.inst inst.now }
+    {
+        match &self.inst {
+            Some(name) => is_one(name, inst),
+            None => false,
+        }
+    }
+
+    /// The number by which its process knows an instance.
+    fn number_for(&self, inst: &InstName) -> InstNo
+        ensures { result ≡ number_for self.now.inst inst.now }
+    {
+        match &self.inst {
+            Some(name) => {
+                if is_one(name, inst) {
+                    here()
+                } else {
+                    elsewhere()
+                }
+            }
+            None => here(),
+        }
+    }
+
+    /// Whether it holds something of a process.
+    fn holds(&self, from: ProcNo) -> bool
+        requires { from < self.now.size }
+        ensures { (y : NodeState) → ShowsNode self.now y → result ≡ has_some (y.held from) }
+    {
+        self.held.front(from, self.me).is_some()
+    }
+
+    /// The least process of which it holds something that it could take now.
+    pub fn next_held(&self) -> Option<ProcNo>
+        ensures some { IfSome result (λ q. (y : NodeState) → ShowsNode self.now y → (is_in_rollback y ≡ false) × (has_some (y.held q) ≡ true)) }
+        ensures none { IfNone result ((y : NodeState) (q : ℕ) → ShowsNode self.now y → is_in_rollback y ≡ false → has_some (y.held q) ≡ false) }
+    {
+        if self.is_in_rollback() {
+            return None;
+        }
+        self.held.senders(self.me).first()
+    }
+
+    /// Whether another process is there.
+    fn meet(&self, q: ProcNo) -> Result<(), ManagerFault>
+        ensures within { OnOk result (q < self.now.size) }
+        ensures ok { OnOk result ((y : NodeState) → ShowsNode self.now y → stranger y q ≡ None) }
+        ensures err { IfErr result (λ f. (y : NodeState) → ShowsNode self.now y → stranger y q ≡ Some f) }
+    {
+        if q.index() >= self.size {
+            return Err(ManagerFault::Unknown);
+        }
+        if q.get() == self.me.get() {
+            return Err(ManagerFault::Itself);
+        }
+        Ok(())
+    }
+
+    /// Room to hold all that it keeps, where it is in a rollback.
+    fn make_room_back(&mut self) -> Result<(), Memory>
+        ensures same { IsSameManager self.new self.old }
+        ensures back { OnOk result (is_ready self.old.process.side ≡ true → HasBack self.new) }
+    {
+        if self.process.is_ready() {
+            return make_room_back(&mut self.held, &self.kept, self.me);
+        }
+        Ok(())
+    }
+}
+
+/// Whether a name is that of another instance too.
+fn is_one(name: &InstName, inst: &InstName) -> bool
+    ensures { result ≡ is_one name.now inst.now }
+{
+    name.initiator.get() == inst.initiator.get() && name.count.get() == inst.count.get()
+}
+
+/// The instance that it is in, or may join now, as its process counts.
+fn here() -> InstNo
+    ensures { result ≡ 1 }
+{
+    InstNo::new(1).unwrap()
+}
+
+/// Any other one.
+fn elsewhere() -> InstNo
+    ensures { result ≡ 2 }
+{
+    InstNo::new(2).unwrap()
+}

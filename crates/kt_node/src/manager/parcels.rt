@@ -1,0 +1,46 @@
+//! Any parcel.
+
+ghost use Rattle.std.specs.Prelude.{◌≡◌, IfOk, OnErr};
+ghost use Rattle.kt_tables.specs.Calls.{Speaks};
+ghost use Rattle.kt_net.specs.Nodes.{NodeState, Comes};
+ghost use Rattle.kt_net.specs.NodeSteps.{node_after};
+ghost use Rattle.kt_node.specs.Managers.{ShowsNode, IsSameManager};
+ghost use Rattle.kt_node.specs.Effects.{IsDone};
+ghost use Rattle.kt_node.specs.Faults.{fault_at, IsRefusedAs};
+
+use super::Manager;
+use super::instances::Ask;
+use crate::effects::Effects;
+use crate::faults::ManagerFault;
+use kt_base::ProcNo;
+use kt_net::NodeParcel;
+use std::alloc::Global;
+
+impl Manager {
+    /// A parcel of another process comes. Whether its object can be saved counts where it is asked to take a checkpoint.
+    pub fn take(
+        &mut self,
+        alloc: Global,
+        from: ProcNo,
+        able: bool,
+        parcel: &NodeParcel,
+    ) -> Result<Effects, ManagerFault>
+        ensures done { (y : NodeState) → ShowsNode self.old y → Speaks ((node_after y (Comes from able parcel.now)).state.calls) →
+            IfOk result (λ e. IsDone self.new e (node_after y (Comes from able parcel.now))) }
+        ensures refused { (y : NodeState) → ShowsNode self.old y → IsRefusedAs (fault_at y (Comes from able parcel.now)) result }
+        ensures err { OnErr result (IsSameManager self.new self.old) }
+    {
+        self.meet(from)?;
+        if !self.is_in_rollback() && self.holds(from) {
+            return Err(ManagerFault::HeldFirst);
+        }
+        match *parcel {
+            NodeParcel::App { label, body } => Ok(self.take_message(from, label, body)?),
+            NodeParcel::Ask { inst, kind, label } => {
+                Ok(self.take_ask(alloc, from, &Ask { inst, kind, label }, able)?)
+            }
+            NodeParcel::Reply { inst, willing } => Ok(self.take_reply(&inst, willing)?),
+            NodeParcel::Decide { inst, commit } => Ok(self.take_decision(&inst, commit)?),
+        }
+    }
+}

@@ -1,0 +1,282 @@
+//! A node: a manager whose parcels have numbers, by sender and receiver, and whose steps have clocks.
+
+ghost use Rattle.std.specs.Prelude.{◌≡◌, ◌<◌, ◌≤◌, ◌+◌, ◌-◌, ◌^◌, ℕ, max, length, slice_index, Some, IfOk, IfErr, IfSome, OnErr, IsErrOf};
+ghost use Rattle.std.specs.Option.{option_to_list, option_map};
+ghost use Rattle.kt_cuts.specs.Past.{at_one, is_rollback_kind};
+ghost use Rattle.kt_tables.specs.Calls.{Speaks};
+ghost use Rattle.kt_net.specs.Nodes.{NodeState, Send, Begin, Fail, Held, Comes};
+ghost use Rattle.kt_net.specs.NodeSteps.{node_after};
+ghost use Rattle.kt_net.specs.Nets.{opening_net};
+ghost use Rattle.kt_node.specs.Managers.{ShowsNode};
+ghost use Rattle.kt_node.specs.Effects.{put_to};
+ghost use Rattle.kt_node.specs.Faults.{fault_at};
+ghost use Rattle.kt_node.specs.Links.{IsStep, TakesNext, IsUntaken, IsSameNode, IsNodeRefusedAs, IsParcelRefusedAs};
+ghost use Rattle.kt_node.specs.declared.node.NodeFault.TheVariants as fault;
+
+use crate::effects::{Effects, Parcels};
+use crate::faults::ManagerFault;
+use crate::manager::Manager;
+use kt_base::{Kind, Label, Memory, ProcNo};
+use kt_net::NodeParcel;
+use std::alloc::Global;
+use std::marker::Model;
+use thiserror::Error;
+
+/// No step has a clock above this one, which is 2^64 - 2.
+const MOST: u64 = u64::MAX - 1;
+
+/// A parcel on its way: which one it is of those from its sender to its receiver, counted from 1, the clock of the step that
+/// put it, and what it is.
+#[derive(Clone, Copy, Debug, PartialEq, Eq, Hash)]
+pub struct Envelope {
+    pub number: u64,
+    pub clock: u64,
+    pub parcel: NodeParcel,
+}
+
+/// What a step puts out, with its clock, and how many parcels were put by then for each process.
+#[derive(Drop)]
+pub struct Output {
+    pub clock: u64,
+    pub effects: Effects,
+    pub numbers: [u64; 64],
+}
+
+/// What became of a parcel: it made a step, or had come before and changes nothing.
+#[derive(Drop)]
+pub enum Taken {
+    Step(Output),
+    Again,
+}
+
+/// Why a node does not take a step. It is as it was.
+#[derive(Clone, Copy, Debug, PartialEq, Eq, Hash, Error)]
+pub enum NodeFault {
+    /// Parcels of this sender are missing: the next one is the one with this number.
+    #[error("gap before {0}")]
+    Gap(u64),
+    /// No clock follows.
+    #[error("clock spent")]
+    ClockSpent,
+    /// Its manager does not take it.
+    #[error("{0}")]
+    Manager(ManagerFault),
+}
+
+impl From<ManagerFault> for NodeFault {
+    ghost from_gives = { λ f g. g ≡ fault.Manager f };
+
+    fn from(fault: ManagerFault) -> NodeFault {
+        NodeFault::Manager(fault)
+    }
+}
+
+/// A manager, its clock, and how many parcels it put for each process and took of each.
+#[derive(Drop)]
+pub struct Node {
+    manager: Manager,
+    clock: u64,
+    sent: [u64; 64],
+    taken: [u64; 64],
+}
+
+impl Model for Node {
+    ghost use Rattle.kt_node.specs.Links.{NodeLinks, AreCounted};
+
+    ghost Value = { NodeLinks };
+
+    ghost view = { λ n. record { manager = n.manager; clock = n.clock; sent = n.sent; taken = n.taken } };
+
+    ghost invariant = { λ n. AreCounted (record { manager = n.manager; clock = n.clock; sent = n.sent; taken = n.taken }) };
+}
+
+impl Output {
+    /// The parcel for a process, if there is one.
+    pub fn to(&self, q: ProcNo) -> Option<Envelope>
+        ensures parcel { option_to_list (option_map (λ e. e.parcel) result) ≡ put_to self.now.effects.parcels q }
+        ensures number { IfSome result (λ e. e.number ≡ slice_index self.now.numbers q) }
+        ensures clock { IfSome result (λ e. e.clock ≡ self.now.clock) }
+    {
+        match self.effects.parcels.to(q) {
+            Some(parcel) => Some(Envelope {
+                number: self.numbers[q.index()],
+                clock: self.clock,
+                parcel,
+            }),
+            None => None,
+        }
+    }
+}
+
+impl Node {
+    /// The node of a process among so many, at most 64, that is up and has done nothing; its labels go on after this one.
+    pub fn new(alloc: Global, me: ProcNo, processes: usize, used: Label) -> Result<Node, Memory>
+        requires me { me < processes }
+        requires few { processes ≤ 64 }
+        ensures shows { IfOk result (λ n. ShowsNode n.manager ((opening_net processes used).nodes me)) }
+        ensures clock { IfOk result (λ n. n.clock ≡ 0) }
+        ensures sent { IfOk result (λ n. (q : ℕ) → slice_index n.sent q ≡ 0) }
+        ensures taken { IfOk result (λ n. (q : ℕ) → slice_index n.taken q ≡ 0) }
+    {
+        Ok(Node {
+            manager: Manager::new(alloc, me, processes, used)?,
+            clock: 0,
+            sent: [0; 64],
+            taken: [0; 64],
+        })
+    }
+
+    /// Its manager, to be read.
+    pub fn manager(&self) -> &Manager
+        ensures { result.now ≡ self.now.manager }
+    {
+        &self.manager
+    }
+
+    /// The clock of a step that takes a parcel with this clock.
+    fn next_clock(&self, came: u64) -> Result<u64, NodeFault>
+        ensures ok { IfOk result (λ clock. clock ≡ max self.now.clock came + 1) }
+        ensures few { IfOk result (λ clock. clock < 2 ^ 64 - 1) }
+        ensures err { IfErr result (λ f. (f ≡ fault.ClockSpent) × (2 ^ 64 - 2 ≤ max self.now.clock came)) }
+    {
+        let latest = self.clock.max(came);
+        if latest >= MOST {
+            return Err(NodeFault::ClockSpent);
+        }
+        Ok(latest + 1)
+    }
+
+    /// A step has this clock, and its parcels get the next numbers.
+    fn put(&mut self, clock: u64, effects: Effects) -> Output
+        requires later { self.old.clock < clock }
+        requires few { clock < 2 ^ 64 - 1 }
+        ensures manager { self.new.manager ≡ self.old.manager }
+        ensures clock { self.new.clock ≡ clock }
+        ensures sent { (q : ℕ) → q < 64 → slice_index self.new.sent q ≡ slice_index self.old.sent q + length (put_to effects.parcels q) }
+        ensures taken { self.new.taken ≡ self.old.taken }
+        ensures effects { result.effects ≡ effects }
+        ensures told { result.clock ≡ clock }
+        ensures numbers { result.numbers ≡ self.new.sent }
+    {
+        let numbers = counted(&self.sent, &effects.parcels);
+        self.clock = clock;
+        self.sent = numbers;
+        Output {
+            clock,
+            effects,
+            numbers,
+        }
+    }
+
+    /// So many parcels of a process were taken.
+    fn note(&mut self, from: ProcNo, number: u64)
+        requires { number ≤ self.old.clock }
+        ensures manager { self.new.manager ≡ self.old.manager }
+        ensures clock { self.new.clock ≡ self.old.clock }
+        ensures sent { self.new.sent ≡ self.old.sent }
+        ensures taken { (q : ℕ) → slice_index self.new.taken q ≡ at_one from number (slice_index self.old.taken) q }
+    {
+        self.taken[from.index()] = number;
+    }
+
+    /// It sends a message to another process; where its object is down, it refuses.
+    pub fn send(&mut self, to: ProcNo, body: i64) -> Result<Output, NodeFault>
+        ensures done { (y : NodeState) → ShowsNode self.old.manager y → Speaks ((node_after y (Send to body)).state.calls) →
+            IfOk result (λ o. IsStep self.old self.new 0 (node_after y (Send to body)) o) }
+        ensures refused { (y : NodeState) → ShowsNode self.old.manager y → IsNodeRefusedAs (fault_at y (Send to body)) result }
+        ensures spent { IsErrOf result fault.ClockSpent → 2 ^ 64 - 2 ≤ self.old.clock }
+        ensures taken { self.new.taken ≡ self.old.taken }
+        ensures err { OnErr result (IsSameNode self.new self.old) }
+    {
+        let clock = self.next_clock(0)?;
+        let effects = self.manager.send(to, body)?;
+        Ok(self.put(clock, effects))
+    }
+
+    /// It begins an instance of a kind, or refuses: in an instance, and a checkpoint where its object can't be saved.
+    pub fn begin(&mut self, alloc: Global, kind: Kind, able: bool) -> Result<Output, NodeFault>
+        ensures done { (y : NodeState) → ShowsNode self.old.manager y →
+            IfOk result (λ o. IsStep self.old self.new 0 (node_after y (Begin (is_rollback_kind (Some kind)) able)) o) }
+        ensures refused { (y : NodeState) → ShowsNode self.old.manager y → IsNodeRefusedAs (fault_at y (Begin (is_rollback_kind (Some kind)) able)) result }
+        ensures spent { IsErrOf result fault.ClockSpent → 2 ^ 64 - 2 ≤ self.old.clock }
+        ensures taken { self.new.taken ≡ self.old.taken }
+        ensures err { OnErr result (IsSameNode self.new self.old) }
+    {
+        let clock = self.next_clock(0)?;
+        let effects = self.manager.begin(alloc, kind, able)?;
+        Ok(self.put(clock, effects))
+    }
+
+    /// Its object fails; where that is down already, it refuses.
+    pub fn fail(&mut self) -> Result<Output, NodeFault>
+        ensures done { (y : NodeState) → ShowsNode self.old.manager y → IfOk result (λ o. IsStep self.old self.new 0 (node_after y Fail) o) }
+        ensures refused { (y : NodeState) → ShowsNode self.old.manager y → IsNodeRefusedAs (fault_at y Fail) result }
+        ensures spent { IsErrOf result fault.ClockSpent → 2 ^ 64 - 2 ≤ self.old.clock }
+        ensures taken { self.new.taken ≡ self.old.taken }
+        ensures err { OnErr result (IsSameNode self.new self.old) }
+    {
+        let clock = self.next_clock(0)?;
+        let effects = self.manager.fail();
+        Ok(self.put(clock, effects))
+    }
+
+    /// It takes the first message that it holds of a process, as one that comes.
+    pub fn redeliver(&mut self, from: ProcNo) -> Result<Output, NodeFault>
+        ensures done { (y : NodeState) → ShowsNode self.old.manager y → Speaks ((node_after y (Held from)).state.calls) →
+            IfOk result (λ o. IsStep self.old self.new 0 (node_after y (Held from)) o) }
+        ensures refused { (y : NodeState) → ShowsNode self.old.manager y → IsNodeRefusedAs (fault_at y (Held from)) result }
+        ensures spent { IsErrOf result fault.ClockSpent → 2 ^ 64 - 2 ≤ self.old.clock }
+        ensures taken { self.new.taken ≡ self.old.taken }
+        ensures err { OnErr result (IsSameNode self.new self.old) }
+    {
+        let clock = self.next_clock(0)?;
+        let effects = self.manager.take_held(from)?;
+        Ok(self.put(clock, effects))
+    }
+
+    /// A parcel of another process comes: the next one of it makes a step, an earlier one changes nothing, and a later one is
+    /// refused. Whether its object can be saved counts where it is asked to take a checkpoint.
+    pub fn deliver(
+        &mut self,
+        alloc: Global,
+        from: ProcNo,
+        able: bool,
+        envelope: &Envelope,
+    ) -> Result<Taken, NodeFault>
+        ensures next { IfOk result (λ t. TakesNext self.old self.new from envelope.now.number t) }
+        ensures done { (y : NodeState) → ShowsNode self.old.manager y → Speaks ((node_after y (Comes from able envelope.now.parcel)).state.calls) →
+            IfOk result (λ t. IsUntaken t (IsStep self.old self.new envelope.now.clock (node_after y (Comes from able envelope.now.parcel)))) }
+        ensures refused { (y : NodeState) → ShowsNode self.old.manager y → IsParcelRefusedAs (fault_at y (Comes from able envelope.now.parcel)) result }
+        ensures spent { IsErrOf result fault.ClockSpent → 2 ^ 64 - 2 ≤ max self.old.clock envelope.now.clock }
+        ensures gap { (n : ℕ) → IsErrOf result (fault.Gap n) → (n ≡ slice_index self.old.taken from + 1) × (n < envelope.now.number) }
+        ensures err { OnErr result (IsSameNode self.new self.old) }
+    {
+        let next = self.taken[from.index()] + 1;
+        if envelope.number < next {
+            return Ok(Taken::Again);
+        }
+        if envelope.number > next {
+            return Err(NodeFault::Gap(next));
+        }
+        let clock = self.next_clock(envelope.clock)?;
+        let effects = self.manager.take(alloc, from, able, &envelope.parcel)?;
+        let output = self.put(clock, effects);
+        self.note(from, next);
+        Ok(Taken::Step(output))
+    }
+}
+
+/// These counts, with one more for each process for which there is a parcel.
+fn counted(before: &[u64; 64], parcels: &Parcels) -> [u64; 64]
+    requires { (q : ℕ) → slice_index before.now q < 2 ^ 64 - 1 }
+    ensures { (q : ℕ) → q < 64 → slice_index result q ≡ slice_index before.now q + length (put_to parcels.now q) }
+{
+    let mut counts = *before;
+    for number in 0..ProcNo::COUNT {
+        let q = ProcNo::nth(number);
+        if parcels.to(q).is_some() {
+            counts[q.index()] += 1;
+        }
+    }
+    counts
+}
