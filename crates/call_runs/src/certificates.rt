@@ -3,7 +3,8 @@
 use crate::entries::{Entry, MANY};
 use crate::failing_reads::{Reading, show_failing_reads};
 use crate::writing::{Form, show_written};
-use kt_chain::{Certificate, read_certs};
+use kt_chain::read_certs;
+use kt_spacetime::Certificate;
 use std::io;
 
 // Shows how many certificates there are; of a text that is not long also which, what is written of them, and what failing

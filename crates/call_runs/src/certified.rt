@@ -9,10 +9,10 @@ use crate::faults::{refused, value_of};
 use crate::run::feed;
 use crate::writing::{Form, show_written};
 use kt_certify::{certify, certify_stream};
-use kt_chain::{Certificate, write_certs};
+use kt_chain::write_certs;
 use kt_log_text::read_csv;
 use kt_plan::Plan;
-use kt_spacetime::SpaceTime;
+use kt_spacetime::{Certificate, SpaceTime};
 use kt_walk::Walk;
 use std::io;
 

@@ -1,9 +1,13 @@
 //! What ends the program: an error of input or output.
 
+ghost use Rattle.std.specs.Prelude.{OnOk};
+
 use std::io;
 
 /// That something is not as it has to be.
-pub(crate) fn refused<T>() -> io::Result<T> {
+pub(crate) fn refused<T>() -> io::Result<T>
+    ensures { OnOk result ⊥ }
+{
     Err(io::Error::from(io::ErrorKind::Other))
 }
 

@@ -2,7 +2,7 @@
 
 use crate::run::Run;
 use kt_base::{InstNo, Kind, ProcNo};
-use kt_cuts::LegalFault;
+use kt_rules::LegalFault;
 use kt_spacetime::Event;
 
 // The process after this one, of 64 in a ring.

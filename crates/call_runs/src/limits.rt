@@ -2,8 +2,9 @@
 
 use crate::faults::refused;
 use kt_base::{InstNo, Label, Labels, Memory, MsgNo, ProcNo, RowNo};
-use kt_cuts::{LegalFault, Rule};
 use kt_object::{RestoreFault, SaveFault};
+use kt_rules::LegalFault;
+use kt_spacetime::Rule;
 use std::fmt::{Debug, Display};
 use std::io;
 

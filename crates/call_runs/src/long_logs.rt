@@ -5,7 +5,7 @@ use crate::instances::{commit, pass_rounds};
 use crate::plain::show_ring;
 use crate::run::Run;
 use kt_base::{InstNo, Kind, MsgNo, ProcNo};
-use kt_cuts::LegalFault;
+use kt_rules::LegalFault;
 use kt_spacetime::Event;
 use kt_walk::Walk;
 use std::io;

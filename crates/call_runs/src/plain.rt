@@ -3,8 +3,8 @@
 use crate::faults::{refused, value_of};
 use crate::run::add_row;
 use kt_base::{MsgNo, ProcNo};
-use kt_cuts::Cut;
 use kt_histories::{Histories, legal};
+use kt_rules::Cut;
 use kt_spacetime::{Event, SpaceTime};
 use std::alloc::Global;
 use std::io;

@@ -1,7 +1,7 @@
 //! A log and the walk of its rows.
 
 use kt_base::{Memory, MsgNo, ProcNo};
-use kt_cuts::LegalFault;
+use kt_rules::LegalFault;
 use kt_spacetime::{Event, SpaceTime};
 use kt_walk::Walk;
 use std::alloc::Global;

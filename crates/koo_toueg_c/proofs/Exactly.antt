@@ -3,15 +3,15 @@ use Rattle.std.proofs.Common.{◌≡◌, ℕ, List, refl, sym, subst}
 use Rattle.std.specs.Prelude.{◌↔◌}
 use Rattle.kt_spacetime.specs.declared.event.Event.{Event}
 use Rattle.kt_log_text.proofs.TextFacts.{one_log}
-use Rattle.kt_chain.specs.declared.certificate.Certificate.{Certificate}
+use Rattle.kt_spacetime.specs.declared.certificate.Certificate.{Certificate}
 use Rattle.kt_chain.proofs.TextFacts.{one_text}
-use Rattle.kt_checker.specs.declared.verdict.Verdict.{Verdict}
-use Rattle.kt_checker.specs.declared.verdict.Verdict.TheVariants.{Yes, No}
-use Rattle.kt_checker.specs.Order.{IsCheckerAnswer}
-use Rattle.kt_checker.specs.Passing.{IsPassed}
-use Rattle.kt_checker.proofs.Answering.{passed_of, yes_of}
-use Rattle.kt_judge.specs.Answers.{passes}
-use Rattle.kt_judge.specs.declared.answer.Answer.TheVariants.{Checked}
+use Rattle.kt_spacetime.specs.declared.verdict.Verdict.{Verdict}
+use Rattle.kt_spacetime.specs.declared.verdict.Verdict.TheVariants.{Yes, No}
+use Rattle.kt_meaning.specs.Answers.{IsCheckerAnswer}
+use Rattle.kt_meaning.specs.Passing.{IsPassed}
+use Rattle.kt_meaning.proofs.Answering.{passed_of, yes_of}
+use Rattle.kt_explain.specs.Answers.{passes}
+use Rattle.kt_explain.specs.declared.answer.Answer.TheVariants.{Checked}
 use Rattle.koo_toueg_c.specs.Numbers.{answer_status}
 use Rattle.koo_toueg_c.specs.Stored.{IsVerdictOf, SayCertificates, SaysLog, records_in}
 

@@ -1,8 +1,8 @@
 -- Parts that texts are.
 use Rattle.std.proofs.Common.{◌≡◌, ℕ, Some, List, [], ◌∷◌, ◌++◌, length, inl, inr, subst, sym}
 use Rattle.std.specs.Prelude.{slice_get}
-use Rattle.kt_cuts.proofs.Items.{get_push}
-use Rattle.kt_part_text.specs.Reading.{PartRead, part_unread}
+use Rattle.kt_meaning.proofs.Items.{get_push}
+use Rattle.kt_merge.specs.Reading.{PartRead, part_unread}
 use Rattle.koo_toueg_c.specs.Merged.{IsReaderOf}
 
 -- one more reader, of the next text

@@ -3,7 +3,7 @@ use Rattle.std.specs.Prelude.{◌≡◌, ℕ, Option, Some, List, [], length, sl
 use Rattle.kt_merge.specs.Merging.{StopsMerge, WritesMerge}
 use Rattle.kt_merge.specs.declared.fault.MergeFault.{MergeFault}
 use Rattle.kt_merge.specs.declared.fault.MergeFault.TheVariants as merge
-use Rattle.kt_part_text.specs.Reading.{PartRead, part_unread}
+use Rattle.kt_merge.specs.Reading.{PartRead, part_unread}
 
 -- a reader of the text at this place, of which nothing was read
 abbrev pub IsReaderOf : List (List ℕ) → ℕ → PartRead → Type 0

@@ -1,24 +1,24 @@
 -- What calls tell in numbers.
 use Rattle.std.specs.Prelude.{◌≡◌, ℕ, ◌+◌, if◌then◌else◌, Bool, Option, Some, None, List, [], ◌∷◌}
-use Rattle.kt_certify.specs.declared.fault.Unfit.{Unfit}
-use Rattle.kt_certify.specs.declared.fault.Unfit.TheVariants as unfit
+use Rattle.kt_spacetime.specs.declared.unfit.Unfit.{Unfit}
+use Rattle.kt_spacetime.specs.declared.unfit.Unfit.TheVariants as unfit
 use Rattle.kt_chain.specs.declared.fault.CertTextFault.{CertTextFault}
 use Rattle.kt_chain.specs.declared.fault.CertTextFault.TheVariants as cert
-use Rattle.kt_checker.specs.declared.verdict.Verdict.{Verdict}
-use Rattle.kt_checker.specs.declared.verdict.Verdict.TheVariants.{Yes, No}
-use Rattle.kt_checker.specs.declared.verdict.Why.{Why}
-use Rattle.kt_checker.specs.declared.verdict.Why.TheVariants as why
-use Rattle.kt_cuts.specs.Rules.{number_of}
+use Rattle.kt_spacetime.specs.declared.verdict.Verdict.{Verdict}
+use Rattle.kt_spacetime.specs.declared.verdict.Verdict.TheVariants.{Yes, No}
+use Rattle.kt_spacetime.specs.declared.verdict.Why.{Why}
+use Rattle.kt_spacetime.specs.declared.verdict.Why.TheVariants as why
+use Rattle.kt_spacetime.specs.Rules.{number_of}
 use Rattle.kt_draw.specs.declared.fault.DrawFault.{DrawFault}
 use Rattle.kt_draw.specs.declared.fault.DrawFault.TheVariants as draw
 use Rattle.kt_draw.specs.declared.fault.PictureFault.TheVariants as picture
-use Rattle.kt_judge.specs.Answers.{passes}
-use Rattle.kt_judge.specs.declared.answer.Answer.{Answer}
-use Rattle.kt_judge.specs.declared.answer.Answer.TheVariants.{Checked, Unlinked, Open}
+use Rattle.kt_explain.specs.Answers.{passes}
+use Rattle.kt_explain.specs.declared.answer.Answer.{Answer}
+use Rattle.kt_explain.specs.declared.answer.Answer.TheVariants.{Checked, Unlinked, Open}
 use Rattle.kt_merge.specs.declared.fault.MergeFault.{MergeFault}
 use Rattle.kt_merge.specs.declared.fault.MergeFault.TheVariants as merge
 use Rattle.kt_merge.specs.declared.fault.RowFault.TheVariants as row
-use Rattle.kt_part_text.specs.declared.fault.PartFault.TheVariants as part
+use Rattle.kt_merge.specs.declared.part_fault.PartFault.TheVariants as part
 use Rattle.kt_log_text.specs.declared.fault.LogFault.{LogFault}
 use Rattle.kt_log_text.specs.declared.fault.LogFault.TheVariants as log
 use Rattle.koo_toueg_c.specs.declared.answer.KtAnswer.{KtAnswer}

@@ -1,25 +1,25 @@
 -- What is made of stored texts, which are bytes in memory.
 use Rattle.std.specs.Prelude.{◌≡◌, ◌≢◌, ℕ, if◌then◌else◌, ◌==◌, Option, Some, None, List, [], ◌∷◌, ◌++◌, false}
 use Rattle.csv.specs.Reading.{default_config, strip_bom, records}
-use Rattle.kt_certify.specs.Faults.{IsUnfit}
+use Rattle.kt_meaning.specs.Fitness.{IsUnfit}
 use Rattle.kt_certify.specs.Streamed.{AreCertified, AreRowsOf}
 use Rattle.kt_certify.specs.declared.fault.StreamFault.{StreamFault}
 use Rattle.kt_certify.specs.declared.fault.StreamFault.TheVariants as stream
-use Rattle.kt_certify.specs.declared.fault.Unfit.{Unfit}
+use Rattle.kt_spacetime.specs.declared.unfit.Unfit.{Unfit}
 use Rattle.kt_chain.specs.Spelling.{records_of}
 use Rattle.kt_chain.specs.Texts as certs
-use Rattle.kt_chain.specs.declared.certificate.Certificate.{Certificate}
+use Rattle.kt_spacetime.specs.declared.certificate.Certificate.{Certificate}
 use Rattle.kt_chain.specs.declared.fault.CertTextFault.TheVariants as cert
-use Rattle.kt_checker.specs.Order.{IsCheckerAnswer}
+use Rattle.kt_meaning.specs.Answers.{IsCheckerAnswer}
 use Rattle.kt_checker.specs.Streamed.{IsAnswerOf}
-use Rattle.kt_checker.specs.Words.{verdict_words}
-use Rattle.kt_checker.specs.declared.verdict.Verdict.{Verdict}
+use Rattle.kt_spacetime.specs.Verdicts.{verdict_words}
+use Rattle.kt_spacetime.specs.declared.verdict.Verdict.{Verdict}
 use Rattle.kt_draw.specs.Drawn.{IsCertifiedPicture, IsNoPicture}
 use Rattle.kt_draw.specs.declared.span.Span.{Span}
-use Rattle.kt_judge.specs.Answers.{passes}
-use Rattle.kt_judge.specs.Judging.{IsAnswerBy}
-use Rattle.kt_judge.specs.declared.answer.Answer.{Answer}
-use Rattle.kt_judge.specs.declared.answer.Answer.TheVariants.{Checked}
+use Rattle.kt_explain.specs.Answers.{passes}
+use Rattle.kt_explain.specs.Judging.{IsAnswerBy}
+use Rattle.kt_explain.specs.declared.answer.Answer.{Answer}
+use Rattle.kt_explain.specs.declared.answer.Answer.TheVariants.{Checked}
 use Rattle.kt_log_text.specs.Texts as rows
 use Rattle.kt_log_text.specs.declared.fault.LogFault.TheVariants as log
 use Rattle.kt_spacetime.specs.declared.event.Event.{Event}

@@ -5,9 +5,8 @@ ghost use Rattle.koo_toueg_c.specs.Numbers.{TellsAnswer, answer_numbers, answer_
 
 use crate::fault::KtFault;
 use kt_base::{InstNo, RowNo};
-use kt_certify::Unfit;
-use kt_checker::{Verdict, Why};
-use kt_judge::Answer;
+use kt_explain::Answer;
+use kt_spacetime::{Unfit, Verdict, Why};
 
 /// An answer in numbers: why it is a no, and what the no names. A number is 0 where nothing is named.
 #[repr(C)]

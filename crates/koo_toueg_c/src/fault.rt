@@ -4,12 +4,11 @@ ghost use Rattle.std.specs.Prelude.{◌≡◌, ◌≤◌, ◌+◌, ℕ};
 ghost use Rattle.kt_merge.specs.declared.fault.MergeFault.TheVariants as merge;
 ghost use Rattle.koo_toueg_c.specs.Numbers.{cert_numbers, fault_numbers, fault_status, log_numbers, merge_numbers, merge_status, no_fault, of_cert, of_draw, of_log, text_fault, too_many_parts, unfit_numbers};
 
-use kt_certify::Unfit;
 use kt_chain::CertTextFault;
 use kt_draw::{DrawFault, PictureFault};
 use kt_log_text::LogFault;
-use kt_merge::{MergeFault, RowFault};
-use kt_part_text::PartFault;
+use kt_merge::{MergeFault, PartFault, RowFault};
+use kt_spacetime::Unfit;
 
 /// Why a call gives no answer, or no text, in numbers. A number is 0 where nothing is named.
 #[repr(C)]

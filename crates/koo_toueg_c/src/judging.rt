@@ -1,11 +1,11 @@
 //! Stored logs judged.
 
 ghost use Rattle.std.specs.Prelude.{◌≡◌, ◌≤◌, ◌<◌, ◌↔◌, ℕ, List, IfOk, IfErr};
-ghost use Rattle.kt_chain.specs.declared.certificate.Certificate.{Certificate as Certificates};
-ghost use Rattle.kt_checker.specs.Passing.{IsPassed};
-ghost use Rattle.kt_checker.specs.declared.verdict.Verdict.{Verdict as Verdicts};
-ghost use Rattle.kt_judge.specs.declared.answer.Answer.{Answer as Answers};
-ghost use Rattle.kt_judge.specs.declared.answer.Answer.TheVariants.{Checked};
+ghost use Rattle.kt_spacetime.specs.declared.certificate.Certificate.{Certificate as Certificates};
+ghost use Rattle.kt_meaning.specs.Passing.{IsPassed};
+ghost use Rattle.kt_spacetime.specs.declared.verdict.Verdict.{Verdict as Verdicts};
+ghost use Rattle.kt_explain.specs.declared.answer.Answer.{Answer as Answers};
+ghost use Rattle.kt_explain.specs.declared.answer.Answer.TheVariants.{Checked};
 ghost use Rattle.kt_spacetime.specs.declared.event.Event.{Event as Events};
 ghost use Rattle.koo_toueg_c.specs.declared.fault.Fault.{Fault as Faults};
 ghost use Rattle.koo_toueg_c.specs.Numbers.{TellsAnswer, TellsFault, no_answer, of_cert};
@@ -15,8 +15,9 @@ use crate::answer::{KtAnswer, tell_answer};
 use crate::fault::{Fault, KtFault};
 use crate::reading::read_log;
 use kt_chain::{CertTextFault, read_certs};
-use kt_checker::{Verdict, check_stream};
-use kt_judge::{Answer, judge};
+use kt_checker::check_stream;
+use kt_explain::{Answer, judge};
+use kt_spacetime::Verdict;
 use std::alloc::Global;
 
 /// Judges a stored log with its certificates, as `koo_toueg check LOG CERT` does; the log in one pass, of which no rows are kept.

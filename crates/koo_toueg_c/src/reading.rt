@@ -4,10 +4,10 @@ ghost use Rattle.std.specs.Prelude.{◌≡◌, IfOk, IfErr};
 ghost use Rattle.koo_toueg_c.specs.Stored.{IsRefusal, IsRefusalOfCertificates, IsRefusalOfLog, SayCertificates, SaysLog};
 
 use crate::fault::Fault;
-use kt_chain::{Certificate, read_certs};
-use kt_judge::{Numbered, RecordLines};
+use kt_chain::read_certs;
+use kt_explain::{Numbered, RecordLines};
 use kt_log_text::read_csv;
-use kt_spacetime::SpaceTime;
+use kt_spacetime::{Certificate, SpaceTime};
 use std::alloc::Global;
 
 /// A log that was read, and on which lines its records begin.

@@ -1,8 +1,8 @@
 //! Texts made of stored logs: certificates, answers in facts, pictures.
 
 ghost use Rattle.std.specs.Prelude.{◌≡◌, ◌≢◌, ◌≤◌, ℕ, List, [], IfOk, IfErr};
-ghost use Rattle.kt_certify.specs.declared.fault.Unfit.{Unfit as Unfits};
-ghost use Rattle.kt_checker.specs.Order.{IsCheckerAnswer};
+ghost use Rattle.kt_spacetime.specs.declared.unfit.Unfit.{Unfit as Unfits};
+ghost use Rattle.kt_meaning.specs.Answers.{IsCheckerAnswer};
 ghost use Rattle.kt_draw.specs.Drawn.{IsCertifiedPicture};
 ghost use Rattle.koo_toueg_c.specs.Buffers.{IsGiven, IsTooLong};
 ghost use Rattle.koo_toueg_c.specs.Numbers.{TellsFault, unfit_numbers};
@@ -14,14 +14,14 @@ use crate::answer::answer_status;
 use crate::buffers::{give, refuse};
 use crate::fault::{Fault, KtFault};
 use crate::reading::{ReadRun, read_run};
-use kt_certify::{StreamFault, Unfit, certify_stream};
+use kt_certify::{StreamFault, certify_stream};
 use kt_chain::write_certs;
-use kt_checker::{Verdict, check};
+use kt_checker::check;
 use kt_draw::{Span, draw_certified};
-use kt_explain::{Lines, Told, explain};
-use kt_judge::Answer;
+use kt_explain::{Answer, Lines, Told, explain};
 use kt_log_text::LogFault;
 use kt_plan::Names;
+use kt_spacetime::{Unfit, Verdict};
 use std::alloc::Global;
 use std::io::Write;
 

@@ -5,20 +5,20 @@ use Rattle.std.proofs.lemmas.Bool.{and_parts}
 use Rattle.std.proofs.lemmas.Option.{slice_get_within}
 use Rattle.kt_base.specs.declared.words.Kind.TheVariants.{Checkpoint, Rollback}
 use Rattle.kt_spacetime.specs.declared.event.Event.{Event}
-use Rattle.kt_cuts.specs.declared.deeds.Deed.TheVariants as deed
-use Rattle.kt_cuts.specs.Past.{past}
-use Rattle.kt_cuts.specs.Legal.{has_deed}
-use Rattle.kt_cuts.specs.Chains.{is_sent_past, is_received_within}
-use Rattle.kt_cuts.proofs.Lists.{get_drop, get_take, get_in_take, deed_place, has_from_place}
-use Rattle.kt_cuts.proofs.OrphanFacts.{get_from_drop}
+use Rattle.kt_spacetime.specs.declared.deeds.Deed.TheVariants as deed
+use Rattle.kt_meaning.specs.Past.{past}
+use Rattle.kt_meaning.specs.Legal.{has_deed}
+use Rattle.kt_meaning.specs.Chains.{is_sent_past, is_received_within}
+use Rattle.kt_meaning.proofs.Lists.{get_drop, get_take, get_in_take, deed_place, has_from_place}
+use Rattle.kt_meaning.proofs.Items.{get_from_drop}
 use Rattle.kt_walk.specs.declared.queue.Arrival.{Arrival}
 use Rattle.kt_walk.specs.Arrivals.{ReceivedParts, ShowsReceived}
 use Rattle.std.specs.Prelude.{find}
 use Rattle.std.specs.List.{range_with_len}
-use Rattle.kt_certify.specs.Linking.{links, least_link}
+use Rattle.kt_meaning.specs.Linking.{links, least_link}
 use Rattle.kt_walk.specs.Searching.{IsFoundPast}
-use Rattle.kt_certify.proofs.Search.{least_is, least_found}
-use Rattle.kt_certify.proofs.Links.{link_numbered}
+use Rattle.kt_meaning.proofs.Search.{least_is, least_found}
+use Rattle.kt_meaning.proofs.Links.{link_numbered}
 
 -- a search that must find this, and one that must find nothing
 least_by : (test : ℕ → Bool) (bound m : ℕ) → test m ≡ true → 1 ≤ m → m ≤ bound → ((j : ℕ) → test j ≡ true → m ≤ j) → find test (range_with_len 1 bound) ≡ Some m

@@ -1,8 +1,8 @@
 -- A list with another item at a number.
 use Rattle.std.proofs.Common.{◌≡◌, ◌≢◌, ℕ, zero, suc, Some, option_map, List, [], ◌∷◌, map, set, refl, ap}
 use Rattle.std.specs.List.{slice_get}
-use Rattle.kt_cuts.specs.Standing.{at_number}
-use Rattle.kt_cuts.proofs.SortedFacts.{some_same}
+use Rattle.kt_rules.specs.Standing.{at_number}
+use Rattle.kt_meaning.proofs.Items.{some_same}
 use Rattle.kt_certify.specs.Instances.{changed_at, changed}
 
 at_same : {X : Type 0} (n : ℕ) (f : X → X) (xs : List X) → slice_get (changed_at n f xs) n ≡ option_map f (slice_get xs n)

@@ -7,16 +7,16 @@ use Rattle.std.proofs.lemmas.List.{append-nil}
 use Rattle.std.proofs.lemmas.Option.{slice_get-map}
 use Rattle.kt_spacetime.specs.declared.event.Event.{Event}
 use Rattle.kt_spacetime.specs.declared.event.Event.TheVariants.{Decided}
-use Rattle.kt_cuts.specs.Past.{Past, Beginning, past, beginning_of}
-use Rattle.kt_cuts.specs.Legal.{IsLegal}
-use Rattle.kt_cuts.specs.Chains.{members}
-use Rattle.kt_cuts.specs.Standing.{at_number}
-use Rattle.kt_cuts.proofs.LegalLogs.{past_push}
-use Rattle.kt_cuts.proofs.Members.{members_push}
-use Rattle.kt_certify.specs.Certificates.{certified, decision_by, certificate_of}
+use Rattle.kt_meaning.specs.Past.{Past, Beginning, past, beginning_of}
+use Rattle.kt_meaning.specs.Legal.{IsLegal}
+use Rattle.kt_meaning.specs.Chains.{members}
+use Rattle.kt_rules.specs.Standing.{at_number}
+use Rattle.kt_meaning.proofs.LegalLogs.{past_push}
+use Rattle.kt_meaning.proofs.Members.{members_push}
+use Rattle.kt_meaning.specs.Certificates.{certified, decision_by, certificate_of}
 use Rattle.kt_certify.specs.Instances.{InstanceParts, changed, joined_by, decided_as, AreInstancesOf, beginning_kept, joined_kept, certificate_kept}
 use Rattle.kt_certify.proofs.Changed.{changed_same, changed_other, map_changed}
-use Rattle.kt_certify.proofs.Pushed.{certificate_stays, certificate_new}
+use Rattle.kt_meaning.proofs.Pushed.{certificate_stays, certificate_new}
 
 pub members_stay : (log : List Event) (row : Event) (k : ℕ) → members (row ∷ []) k ≡ [] → members (log ++ row ∷ []) k ≡ members log k
 members_stay log row k none = members_push log row k ∙ (ap (λ (l : List ℕ). members log k ++ l) none ∙ append-nil (members log k))

@@ -7,16 +7,16 @@ use Rattle.std.proofs.lemmas.Option.{slice_get_within}
 use Rattle.kt_base.specs.declared.words.Kind.{Kind}
 use Rattle.kt_base.specs.declared.words.Kind.TheVariants.{Checkpoint, Rollback}
 use Rattle.kt_spacetime.specs.declared.event.Event.{Event}
-use Rattle.kt_cuts.specs.declared.deeds.Deed.TheVariants as deed
-use Rattle.kt_cuts.specs.Past.{past}
-use Rattle.kt_cuts.proofs.SortedFacts.{some_same}
+use Rattle.kt_spacetime.specs.declared.deeds.Deed.TheVariants as deed
+use Rattle.kt_meaning.specs.Past.{past}
+use Rattle.kt_meaning.proofs.Items.{some_same}
 use Rattle.kt_walk.specs.declared.queue.Arrival.{Arrival}
 use Rattle.kt_walk.specs.Arrivals.{AreRisingArrivals}
 use Rattle.kt_walk.specs.Pairs.{PairState}
 use Rattle.kt_walk.specs.Searching.{IsFoundPast}
 use Rattle.kt_walk.specs.WalkOf.{WalkOf}
 use Rattle.kt_walk.specs.WalkParts.{WalkParts}
-use Rattle.kt_certify.specs.Linking.{least_link}
+use Rattle.kt_meaning.specs.Linking.{least_link}
 use Rattle.kt_certify.proofs.Walked.{pair_at, shown_at, by_checkpoint, by_rollback}
 use Rattle.kt_certify.specs.Arriving.{first_past, message_of, message_within, message_within_new, arrived_link, place_of_pair, sender_of, received_before}
 

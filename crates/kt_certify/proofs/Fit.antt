@@ -1,15 +1,15 @@
 -- What a pass knows of rows after one more.
 use Rattle.std.proofs.Common.{◌≡◌, ◌≤◌, true, false, Option, Some, None, List, [], ◌∷◌, ◌++◌, length, refl, sym, subst, ◌∙◌, arith, length-append}
 use Rattle.kt_spacetime.specs.declared.event.Event.{Event}
-use Rattle.kt_cuts.specs.Past.{start}
-use Rattle.kt_cuts.specs.Legal.{IsLegal}
-use Rattle.kt_cuts.proofs.SortedFacts.{some_same}
+use Rattle.kt_meaning.specs.Past.{start}
+use Rattle.kt_meaning.specs.Legal.{IsLegal}
+use Rattle.kt_meaning.proofs.Items.{some_same}
 use Rattle.kt_walk.specs.WalkOf.{WalkOf}
-use Rattle.kt_checker.proofs.Answering.{no_broken}
-use Rattle.kt_certify.specs.Faults.{IsUnfit}
+use Rattle.kt_meaning.proofs.Answering.{no_broken}
+use Rattle.kt_meaning.specs.Fitness.{IsUnfit}
 use Rattle.kt_certify.specs.PassOf.{KeepsFit, PassKeeps, PassOf, IsBroken, AreEntered, tells_rule}
-use Rattle.kt_certify.specs.declared.fault.Unfit.{Unfit}
-use Rattle.kt_certify.specs.declared.fault.Unfit.TheVariants.{BadLog, NoChain}
+use Rattle.kt_spacetime.specs.declared.unfit.Unfit.{Unfit}
+use Rattle.kt_spacetime.specs.declared.unfit.Unfit.TheVariants.{BadLog, NoChain}
 use Rattle.kt_certify.specs.declared.pass.Pass.{Pass}
 use Rattle.kt_certify.proofs.Rows.{without_more}
 use Rattle.kt_certify.proofs.Whole.{broken_more}

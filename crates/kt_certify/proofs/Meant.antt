@@ -5,18 +5,18 @@ use Rattle.kt_base.specs.declared.words.Kind.{Kind}
 use Rattle.kt_base.specs.declared.words.Kind.TheVariants.{Checkpoint, Rollback}
 use Rattle.kt_spacetime.specs.declared.event.Event.{Event}
 use Rattle.kt_spacetime.specs.declared.event.Event.TheVariants.{Decided}
-use Rattle.kt_cuts.specs.Past.{Past, past}
-use Rattle.kt_chain.specs.declared.certificate.Certificate.{Certificate}
-use Rattle.kt_checker.specs.Passing.{IsAsInLog, IsChain, IsListOf, HasCertificate}
-use Rattle.kt_certify.specs.Certificates.{certificates}
-use Rattle.kt_certify.specs.Faults.{IsFitLog}
-use Rattle.kt_certify.specs.Making.{FollowsFirst, IsMadeOf, begins, follows, unlinked}
-use Rattle.kt_certify.specs.Meant.{IsDecided, IsChainOf, IsMeant, AreMeant}
+use Rattle.kt_meaning.specs.Past.{Past, past}
+use Rattle.kt_spacetime.specs.declared.certificate.Certificate.{Certificate}
+use Rattle.kt_meaning.specs.Passing.{IsAsInLog, IsChain, IsListOf, HasCertificate}
+use Rattle.kt_meaning.specs.Certificates.{certificates}
+use Rattle.kt_meaning.specs.Fitness.{IsFitLog}
+use Rattle.kt_meaning.specs.Making.{FollowsFirst, IsMadeOf, begins, follows, unlinked}
+use Rattle.kt_meaning.specs.Meant.{IsDecided, IsChainOf, IsMeant, AreMeant}
 use Rattle.kt_certify.specs.PassOf.{KeepsFit}
 use Rattle.kt_certify.specs.declared.pass.Pass.{Pass}
-use Rattle.kt_certify.proofs.Certified.{rising}
-use Rattle.kt_certify.proofs.Claims.{IsMadeAt, made_at, stated, members_right, list_made, lists_right}
-use Rattle.kt_certify.proofs.Passing.{complete}
+use Rattle.kt_meaning.proofs.Certified.{rising}
+use Rattle.kt_meaning.proofs.Claims.{IsMadeAt, made_at, stated, members_right, list_made, lists_right}
+use Rattle.kt_meaning.proofs.Passing.{complete}
 use Rattle.kt_certify.proofs.Whole.{all_certified}
 
 -- an empty chain leads to where it begins

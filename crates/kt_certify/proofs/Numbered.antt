@@ -4,11 +4,11 @@ use Rattle.std.specs.Prelude.{fold}
 use Rattle.std.specs.List.{slice_get}
 use Rattle.kt_base.specs.declared.words.Kind.{Kind}
 use Rattle.kt_spacetime.specs.declared.event.Event.{Event}
-use Rattle.kt_cuts.specs.Past.{past}
-use Rattle.kt_cuts.proofs.Items.{get_push}
-use Rattle.kt_certify.specs.Linking.{least_link, chain_through, chain_of, with_member, chained}
-use Rattle.kt_certify.proofs.Links.{link_passes, link_numbered}
-use Rattle.kt_certify.proofs.Through.{IsThrough, through_is}
+use Rattle.kt_meaning.specs.Past.{past}
+use Rattle.kt_meaning.proofs.Items.{get_push}
+use Rattle.kt_meaning.specs.Linking.{least_link, chain_through, chain_of, with_member, chained}
+use Rattle.kt_meaning.proofs.Links.{link_passes, link_numbered}
+use Rattle.kt_meaning.proofs.Through.{IsThrough, through_is}
 
 -- each message of a chain is one of so many rows
 pub record HasNumbers (rows : ℕ) (chain : List ℕ) : Type 0 where

@@ -10,18 +10,18 @@ use Rattle.std.proofs.Math.Seq.{take-length}
 use Rattle.kt_base.specs.declared.words.Kind.{Kind}
 use Rattle.kt_spacetime.specs.declared.event.Event.{Event}
 use Rattle.kt_spacetime.specs.declared.event.Event.TheVariants.{Sent, Received, Dropped, Began, Took, Ready, Unwilling, Decided, Closed, Failed, Refused}
-use Rattle.kt_cuts.specs.Past.{Past, Beginning, past, after, beginning_of, is_checkpoint, is_rollback, is_checkpoint_kind, is_rollback_kind}
-use Rattle.kt_cuts.specs.Legal.{IsLegal, broken_rule}
-use Rattle.kt_cuts.specs.Standing.{at_number}
-use Rattle.kt_cuts.proofs.Items.{take_item, item_there, get_left}
-use Rattle.kt_cuts.proofs.Lists.{get_last}
-use Rattle.kt_cuts.proofs.LegalLogs.{past_push, legal_push}
-use Rattle.kt_cuts.proofs.RowRules.{may_take, may_get_ready}
+use Rattle.kt_meaning.specs.Past.{Past, Beginning, past, after, beginning_of, is_checkpoint, is_rollback, is_checkpoint_kind, is_rollback_kind}
+use Rattle.kt_meaning.specs.Legal.{IsLegal, broken_rule}
+use Rattle.kt_rules.specs.Standing.{at_number}
+use Rattle.kt_meaning.proofs.Items.{take_item, item_there, get_left}
+use Rattle.kt_meaning.proofs.Lists.{get_last}
+use Rattle.kt_meaning.proofs.LegalLogs.{past_push, legal_push}
+use Rattle.kt_meaning.proofs.RowRules.{may_take, may_get_ready}
 use Rattle.std.specs.List.{range_with_len}
-use Rattle.kt_certify.specs.Certificates.{certificate_of, certificates}
-use Rattle.kt_certify.proofs.Listed.{numbers_more}
+use Rattle.kt_meaning.specs.Certificates.{certificate_of, certificates}
+use Rattle.kt_meaning.proofs.Listed.{numbers_more}
 use Rattle.kt_certify.specs.Instances.{InstanceParts, new_instance, instances_after, AreInstancesOf, beginning_kept, joined_kept, certificate_kept}
-use Rattle.kt_certify.proofs.Pushed.{certificate_stays}
+use Rattle.kt_meaning.proofs.Pushed.{certificate_stays}
 use Rattle.kt_certify.proofs.Entered.{members_stay, quiet, joining, deciding, beginning_there}
 
 -- an item added at the end

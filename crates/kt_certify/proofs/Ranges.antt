@@ -10,27 +10,26 @@ use Rattle.kt_base.specs.declared.words.Kind.{Kind}
 use Rattle.kt_spacetime.specs.Events as events
 use Rattle.kt_spacetime.specs.declared.event.Event.{Event}
 use Rattle.kt_spacetime.specs.declared.event.Event.TheVariants.{Decided}
-use Rattle.kt_cuts.specs.Past.{past}
-use Rattle.kt_cuts.specs.Legal.{IsLegal}
-use Rattle.kt_cuts.specs.Chains.{members}
-use Rattle.kt_cuts.proofs.LegalLogs.{rows_length, legal_take}
-use Rattle.kt_cuts.proofs.RowRules.{may_decide}
-use Rattle.kt_cuts.proofs.SortedFacts.{some_same}
-use Rattle.kt_cuts.proofs.Traced.{next_unbroken}
+use Rattle.kt_meaning.specs.Past.{past}
+use Rattle.kt_meaning.specs.Legal.{IsLegal}
+use Rattle.kt_meaning.specs.Chains.{members}
+use Rattle.kt_meaning.proofs.LegalLogs.{rows_length, legal_take, next_unbroken}
+use Rattle.kt_meaning.proofs.RowRules.{may_decide}
+use Rattle.kt_meaning.proofs.Items.{some_same}
 use Rattle.kt_walk.proofs.ItemPlaces.{get_mapped, mapped_get}
-use Rattle.kt_chain.specs.declared.certificate.Certificate.{Certificate}
+use Rattle.kt_spacetime.specs.declared.certificate.Certificate.{Certificate}
 use Rattle.kt_chain.specs.Spelling.{IsCertificateWithin, IsMemberInRange, certificate_records, member_record, records_of}
 use Rattle.kt_chain.specs.Texts.{IsCertText}
-use Rattle.kt_certify.specs.Linking.{chained}
-use Rattle.kt_certify.specs.Certificates.{certificate_of, certificates}
-use Rattle.kt_certify.proofs.Chained.{process, processes_are}
-use Rattle.kt_certify.proofs.Certified.{rising}
-use Rattle.kt_certify.proofs.Decisions.{certificate_is}
-use Rattle.kt_certify.proofs.FewMembers.{few, member_low, few_members}
-use Rattle.kt_certify.proofs.Listed.{item_is}
+use Rattle.kt_meaning.specs.Linking.{chained}
+use Rattle.kt_meaning.specs.Certificates.{certificate_of, certificates}
+use Rattle.kt_meaning.proofs.Chained.{process, processes_are}
+use Rattle.kt_meaning.proofs.Certified.{rising}
+use Rattle.kt_meaning.proofs.Decisions.{certificate_is}
+use Rattle.kt_meaning.proofs.FewMembers.{few, member_low, few_members}
+use Rattle.kt_meaning.proofs.Listed.{item_is}
 use Rattle.kt_certify.proofs.Numbered.{numbered}
-use Rattle.kt_certify.proofs.Short.{short}
-use Rattle.kt_certify.proofs.Unlinked.{initiator_known}
+use Rattle.kt_meaning.proofs.Short.{short}
+use Rattle.kt_meaning.proofs.Unlinked.{initiator_known}
 
 -- a row of a log in range
 row_in_range : (log : List Event) (n : ℕ) (row : Event) → All events.IsRowInRange log → slice_get log n ≡ Some row → events.IsRowInRange row

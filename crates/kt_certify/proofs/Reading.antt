@@ -9,13 +9,13 @@ use Rattle.kt_log_text.specs.Texts.{IsLogText}
 use Rattle.kt_log_text.specs.Progress.{GathersRows}
 use Rattle.kt_log_text.proofs.GatherFacts.{gathers_more, gathers_none, gathered_all, most_rows_le}
 use Rattle.kt_log_text.proofs.TextFacts.{one_log}
-use Rattle.kt_chain.specs.declared.certificate.Certificate.{Certificate}
+use Rattle.kt_spacetime.specs.declared.certificate.Certificate.{Certificate}
 use Rattle.kt_chain.specs.Spelling.{HasShortChains, records_of}
 use Rattle.kt_chain.specs.Texts.{IsCertText}
-use Rattle.kt_certify.specs.Faults.{IsUnfit}
+use Rattle.kt_meaning.specs.Fitness.{IsUnfit}
 use Rattle.kt_certify.specs.PassOf.{PassOf}
 use Rattle.kt_certify.specs.Streamed.{AreRowsOf, AreCertified}
-use Rattle.kt_certify.specs.declared.fault.Unfit.{Unfit}
+use Rattle.kt_spacetime.specs.declared.unfit.Unfit.{Unfit}
 use Rattle.kt_certify.specs.declared.pass.Pass.{Pass}
 use Rattle.kt_certify.proofs.Fit.{fit_so_far}
 use Rattle.kt_certify.proofs.Meant.{all_meant}

@@ -8,23 +8,23 @@ use Rattle.std.proofs.Math.Seq.{take-append_seam}
 use Rattle.kt_base.specs.declared.words.Kind.{Kind}
 use Rattle.kt_spacetime.specs.declared.event.Event.{Event}
 use Rattle.kt_spacetime.specs.declared.event.Event.TheVariants.{Sent, Received, Dropped, Began, Took, Ready, Unwilling, Decided, Closed, Failed, Refused}
-use Rattle.kt_cuts.specs.Past.{Beginning, past, beginning_of, kind_of, initiator_of}
-use Rattle.kt_cuts.specs.Legal.{IsLegal}
-use Rattle.kt_cuts.specs.Chains.{members}
-use Rattle.kt_cuts.specs.Standing.{at_number}
-use Rattle.kt_cuts.proofs.Items.{get_left, get_push}
-use Rattle.kt_cuts.proofs.Lists.{get_last}
-use Rattle.kt_cuts.proofs.LegalLogs.{legal_last}
-use Rattle.kt_cuts.proofs.SortedFacts.{some_same}
-use Rattle.kt_certify.specs.Linking.{chain_of, chained}
-use Rattle.kt_certify.specs.Faults.{HasNoChain, IsFirstWithout, IsUnlinked}
+use Rattle.kt_meaning.specs.Past.{Beginning, past, beginning_of, kind_of, initiator_of}
+use Rattle.kt_meaning.specs.Legal.{IsLegal}
+use Rattle.kt_meaning.specs.Chains.{members}
+use Rattle.kt_rules.specs.Standing.{at_number}
+use Rattle.kt_meaning.proofs.Items.{get_left, get_push, some_same}
+use Rattle.kt_meaning.proofs.Lists.{get_last}
+use Rattle.kt_meaning.proofs.LegalLogs.{legal_last}
+use Rattle.kt_meaning.specs.Linking.{chain_of, chained, AreChainedTo}
+use Rattle.kt_meaning.specs.Fitness.{HasNoChain, IsFirstWithout, IsUnlinked}
 use Rattle.kt_certify.specs.Instances.{InstanceParts, instances_after, AreInstancesOf, beginning_kept, joined_kept}
-use Rattle.kt_certify.specs.Stops.{AreChainedTo, HasChains, IsStuck, StopsIn, StopsOn}
+use Rattle.kt_certify.specs.Stops.{HasChains, IsStuck, StopsIn, StopsOn}
 use Rattle.kt_certify.specs.declared.fault.Stop.TheVariants.{NoChain}
-use Rattle.kt_certify.proofs.Chained.{process, processes_are}
+use Rattle.kt_meaning.proofs.Chained.{process, processes_are}
 use Rattle.kt_certify.proofs.Entered.{beginning_there}
 use Rattle.kt_certify.proofs.PassSteps.{step}
-use Rattle.kt_certify.proofs.Unlinked.{lacks_at, never_unlinked}
+use Rattle.kt_meaning.proofs.Unlinked.{lacks_at}
+use Rattle.kt_certify.proofs.Unlinked.{never_unlinked}
 
 pub entered_more : (rows : List Event) (row : Event) (es more : List InstanceParts) → IsLegal (rows ++ row ∷ []) → more ≡ instances_after (past rows) row es → AreInstancesOf rows es → AreInstancesOf (rows ++ row ∷ []) more
 entered_more rows row es more l is h = subst (AreInstancesOf (rows ++ row ∷ [])) (sym is) (step rows row es (past rows) (legal_last rows row l).0 (legal_last rows row l).1 refl h)

@@ -4,19 +4,19 @@ use Rattle.std.specs.List.{filter_map}
 use Rattle.std.proofs.lemmas.List.{take-append-drop}
 use Rattle.kt_spacetime.specs.declared.event.Event.{Event}
 use Rattle.kt_spacetime.specs.Events.{IsRowInRange}
-use Rattle.kt_chain.specs.declared.certificate.Certificate.{Certificate}
+use Rattle.kt_spacetime.specs.declared.certificate.Certificate.{Certificate}
 use Rattle.kt_chain.specs.Spelling.{HasShortChains, records_of}
 use Rattle.kt_chain.specs.Texts.{IsCertText}
-use Rattle.kt_certify.specs.Certificates.{certificates}
-use Rattle.kt_cuts.specs.Legal.{IsLegal}
-use Rattle.kt_cuts.proofs.LegalLogs.{legal_take}
-use Rattle.kt_checker.proofs.Answering.{no_broken}
-use Rattle.kt_certify.specs.Faults.{HasNoChain, IsFitLog, IsUnfit}
+use Rattle.kt_meaning.specs.Certificates.{certificates}
+use Rattle.kt_meaning.specs.Legal.{IsLegal}
+use Rattle.kt_meaning.proofs.LegalLogs.{legal_take}
+use Rattle.kt_meaning.proofs.Answering.{no_broken}
+use Rattle.kt_meaning.specs.Fitness.{HasNoChain, IsFitLog, IsUnfit}
 use Rattle.kt_certify.specs.Instances.{InstanceParts, AreInstancesOf}
-use Rattle.kt_certify.specs.Meant.{AreMeant}
+use Rattle.kt_meaning.specs.Meant.{AreMeant}
 use Rattle.kt_certify.specs.PassOf.{KeepsFit, PassOf}
-use Rattle.kt_certify.specs.declared.fault.Unfit.{Unfit}
-use Rattle.kt_certify.specs.declared.fault.Unfit.TheVariants.{BadLog, NoChain}
+use Rattle.kt_spacetime.specs.declared.unfit.Unfit.{Unfit}
+use Rattle.kt_spacetime.specs.declared.unfit.Unfit.TheVariants.{BadLog, NoChain}
 use Rattle.kt_certify.specs.declared.pass.Pass.{Pass}
 use Rattle.kt_certify.proofs.Fit.{fit_so_far}
 use Rattle.kt_certify.proofs.Meant.{are_meant}

@@ -3,7 +3,7 @@ use Rattle.std.proofs.Common.{◌≡◌, ℕ, ◌+◌, ◌*◌, ◌<◌, Option,
 use Rattle.std.specs.List.{slice_get}
 use Rattle.kt_base.specs.declared.words.Kind.TheVariants.{Checkpoint, Rollback}
 use Rattle.kt_spacetime.specs.declared.event.Event.{Event}
-use Rattle.kt_cuts.specs.Past.{Past, past}
+use Rattle.kt_meaning.specs.Past.{Past, past}
 use Rattle.kt_walk.specs.declared.queue.Arrival.{Arrival}
 use Rattle.kt_walk.specs.Arrivals.{ShowsReceived}
 use Rattle.kt_walk.specs.Pairs.{PairState, received_from_of, ShowsPairs}
@@ -11,7 +11,7 @@ use Rattle.kt_walk.specs.Searching.{IsFoundPast}
 use Rattle.kt_walk.specs.WalkOf.{WalkOf}
 use Rattle.kt_walk.specs.WalkParts.{WalkParts}
 use Rattle.kt_walk.proofs.ItemPlaces.{mapped_get}
-use Rattle.kt_certify.specs.Linking.{least_link}
+use Rattle.kt_meaning.specs.Linking.{least_link}
 use Rattle.kt_certify.proofs.Arrived.{rollback_searched, checkpoint_searched}
 
 -- the receiver and the sender of the pair at a place

@@ -2,22 +2,23 @@
 use Rattle.std.proofs.Common.{◌≡◌, ℕ, ◌+◌, ◌^◌, ◌≤◌, Option, Some, None, All, List, [], ◌∷◌, ◌++◌, length, sym, subst, ◌∙◌}
 use Rattle.std.specs.List.{filter_map}
 use Rattle.kt_spacetime.specs.declared.event.Event.{Event}
-use Rattle.kt_cuts.specs.declared.rules.Rule.{Rule}
-use Rattle.kt_cuts.specs.Past.{Past, after}
-use Rattle.kt_cuts.specs.Legal.{broken_rule, first_broken_after, or_later}
-use Rattle.kt_chain.specs.declared.certificate.Certificate.{Certificate}
+use Rattle.kt_spacetime.specs.declared.rules.Rule.{Rule}
+use Rattle.kt_meaning.specs.Past.{Past, after}
+use Rattle.kt_meaning.specs.Legal.{broken_rule, first_broken_after, or_later}
+use Rattle.kt_spacetime.specs.declared.certificate.Certificate.{Certificate}
 use Rattle.kt_chain.specs.Spelling.{HasShortChains, records_of}
 use Rattle.kt_chain.specs.Texts.{IsCertText}
 use Rattle.kt_certify.proofs.Ranges.{text_says}
 use Rattle.kt_certify.proofs.ShortLists.{short_chains}
 use Rattle.kt_spacetime.specs.Events.{IsRowInRange}
-use Rattle.kt_certify.specs.Certificates.{certificates}
+use Rattle.kt_meaning.specs.Certificates.{certificates}
 use Rattle.kt_certify.proofs.PassSteps.{listed_of}
 use Rattle.kt_certify.specs.declared.pass.Pass.{Pass}
 use Rattle.kt_certify.specs.PassOf.{KeepsFit}
-use Rattle.kt_certify.specs.Faults.{IsFaultOf, IsUnfit, IsWhyUnfit, of_unfit}
-use Rattle.kt_certify.specs.declared.fault.Unfit.{Unfit}
-use Rattle.kt_certify.specs.declared.fault.Unfit.TheVariants as reason
+use Rattle.kt_meaning.specs.Fitness.{IsFaultOf, IsUnfit, IsWhyUnfit}
+use Rattle.kt_spacetime.specs.Unfit.{of_unfit}
+use Rattle.kt_spacetime.specs.declared.unfit.Unfit.{Unfit}
+use Rattle.kt_spacetime.specs.declared.unfit.Unfit.TheVariants as reason
 
 pub broken_more : (s : Past) (log more : List Event) (x : ℕ × Rule) → first_broken_after s log ≡ Some x → first_broken_after s (log ++ more) ≡ Some x
 broken_more s [] more x e = absurd (cc)

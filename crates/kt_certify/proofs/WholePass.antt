@@ -5,13 +5,13 @@ use Rattle.std.proofs.lemmas.Bool.Decides.{nat_tests}
 use Rattle.std.proofs.lemmas.Grind.{fold-append}
 use Rattle.std.proofs.lemmas.List.{length-map}
 use Rattle.kt_spacetime.specs.declared.event.Event.{Event}
-use Rattle.kt_cuts.specs.Past.{Past, past, after}
-use Rattle.kt_cuts.specs.Legal.{IsLegal, broken_rule, has_begun}
-use Rattle.kt_cuts.specs.Chains.{members}
-use Rattle.kt_cuts.specs.Standing.{at_number}
-use Rattle.kt_cuts.proofs.Items.{item_there}
-use Rattle.kt_cuts.proofs.LegalLogs.{past_push, legal_log_induction}
-use Rattle.kt_certify.specs.Certificates.{certificate_of, certificates}
+use Rattle.kt_meaning.specs.Past.{Past, past, after}
+use Rattle.kt_meaning.specs.Legal.{IsLegal, broken_rule, has_begun}
+use Rattle.kt_meaning.specs.Chains.{members}
+use Rattle.kt_rules.specs.Standing.{at_number}
+use Rattle.kt_meaning.proofs.Items.{item_there}
+use Rattle.kt_meaning.proofs.LegalLogs.{past_push, legal_log_induction}
+use Rattle.kt_meaning.specs.Certificates.{certificate_of, certificates}
 use Rattle.kt_certify.specs.Instances.{InstanceParts, AreInstancesOf, beginning_kept, joined_kept, certificate_kept}
 use Rattle.kt_certify.proofs.PassSteps.{step, listed_of}
 use Rattle.kt_certify.specs.OnePass.{PassState, pass_after, opening_pass, pass_over, found, HasSeen}

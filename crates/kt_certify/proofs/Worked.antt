@@ -4,8 +4,8 @@ use Rattle.kt_base.specs.declared.words.Kind.TheVariants.{Checkpoint, Rollback}
 use Rattle.kt_base.specs.declared.words.Cause.TheVariants.{NoSave}
 use Rattle.kt_spacetime.specs.declared.event.Event.{Event}
 use Rattle.kt_spacetime.specs.declared.event.Event.TheVariants.{Sent, Received, Began, Took, Ready, Unwilling, Decided, Closed}
-use Rattle.kt_cuts.specs.WorkedRows as worked
-use Rattle.kt_certify.specs.Certificates.{certificates}
+use Rattle.kt_meaning.specs.WorkedRows as worked
+use Rattle.kt_meaning.specs.Certificates.{certificates}
 
 two_processes : certificates worked.two_processes_checkpoint ≡ record { inst = 1; kind = Checkpoint; initiator = 1; commit = true; members = (1, []) ∷ (0, 1 ∷ []) ∷ [] } ∷ []
 two_processes = refl

@@ -2,7 +2,7 @@
 use Rattle.std.specs.Prelude.{ℕ, ◌+◌, ◌*◌, nat_le, nat_lt, if◌then◌else◌, Option, Some, None, option_map, unwrap_or, List, [], ◌∷◌, length}
 use Rattle.kt_base.specs.declared.words.Kind.{Kind}
 use Rattle.kt_base.specs.declared.words.Kind.TheVariants.{Checkpoint, Rollback}
-use Rattle.kt_cuts.specs.Past.{Past}
+use Rattle.kt_meaning.specs.Past.{Past}
 use Rattle.kt_walk.specs.declared.queue.Arrival.{Arrival}
 
 -- the first arrival that was sent at a place or later

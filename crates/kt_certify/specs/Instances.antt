@@ -3,11 +3,11 @@ use Rattle.std.specs.Prelude.{◌≡◌, ℕ, zero, suc, Bool, Option, Some, Non
 use Rattle.kt_base.specs.declared.words.Kind.{Kind}
 use Rattle.kt_spacetime.specs.declared.event.Event.{Event}
 use Rattle.kt_spacetime.specs.declared.event.Event.TheVariants.{Began, Took, Ready, Decided}
-use Rattle.kt_cuts.specs.Past.{Past, Beginning, past}
-use Rattle.kt_cuts.specs.Chains.{members}
-use Rattle.kt_cuts.specs.Standing.{at_number}
-use Rattle.kt_chain.specs.declared.certificate.Certificate.{Certificate}
-use Rattle.kt_certify.specs.Certificates.{certified, certificate_of}
+use Rattle.kt_meaning.specs.Past.{Past, Beginning, past}
+use Rattle.kt_meaning.specs.Chains.{members}
+use Rattle.kt_rules.specs.Standing.{at_number}
+use Rattle.kt_spacetime.specs.declared.certificate.Certificate.{Certificate}
+use Rattle.kt_meaning.specs.Certificates.{certified, certificate_of}
 
 -- how an instance began, who has joined so far, and its certificate once it is decided
 pub record InstanceParts : Type 0 where

@@ -2,8 +2,8 @@
 use Rattle.std.specs.Prelude.{◌≡◌, List, [], fold}
 use Rattle.std.specs.List.{filter_map}
 use Rattle.kt_spacetime.specs.declared.event.Event.{Event}
-use Rattle.kt_cuts.specs.Past.{Past, start, past, after}
-use Rattle.kt_chain.specs.declared.certificate.Certificate.{Certificate}
+use Rattle.kt_meaning.specs.Past.{Past, start, past, after}
+use Rattle.kt_spacetime.specs.declared.certificate.Certificate.{Certificate}
 use Rattle.kt_certify.specs.Instances.{InstanceParts, AreInstancesOf, instances_after}
 
 -- what a pass keeps: what is known after the rows so far, and the instances by their numbers

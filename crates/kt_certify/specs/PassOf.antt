@@ -2,11 +2,11 @@
 use Rattle.std.specs.Prelude.{◌≡◌, ◌≤◌, ℕ, Bool, true, false, Option, Some, None, List, length}
 use Rattle.kt_spacetime.specs.declared.event.Event.{Event}
 use Rattle.kt_walk.specs.WalkOf.{WalkOf}
-use Rattle.kt_cuts.specs.Legal.{first_broken}
-use Rattle.kt_certify.specs.Faults.{HasNoChain, IsFirstWithout, IsUnfit}
+use Rattle.kt_meaning.specs.Legal.{first_broken}
+use Rattle.kt_meaning.specs.Fitness.{HasNoChain, IsFirstWithout, IsUnfit}
 use Rattle.kt_certify.specs.Instances.{AreInstancesOf}
-use Rattle.kt_certify.specs.declared.fault.Unfit.{Unfit}
-use Rattle.kt_certify.specs.declared.fault.Unfit.TheVariants as reason
+use Rattle.kt_spacetime.specs.declared.unfit.Unfit.{Unfit}
+use Rattle.kt_spacetime.specs.declared.unfit.Unfit.TheVariants as reason
 use Rattle.kt_certify.specs.declared.pass.Pass.{Pass}
 
 -- a pass has seen these rows, of which no committed instance has a member without a chain

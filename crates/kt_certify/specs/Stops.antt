@@ -1,23 +1,14 @@
 -- Where the chains of an instance stop.
-use Rattle.std.specs.Prelude.{◌≡◌, ℕ, ◌<◌, Bool, true, Some, None, List, length, take, slice_get, ⊤}
+use Rattle.std.specs.Prelude.{◌≡◌, ℕ, Bool, true, Some, None, List, take, slice_get, ⊤}
 use Rattle.kt_base.specs.declared.words.Kind.{Kind}
 use Rattle.kt_spacetime.specs.declared.event.Event.{Event}
 use Rattle.kt_spacetime.specs.declared.event.Event.TheVariants.{Decided}
-use Rattle.kt_cuts.specs.Past.{Past}
-use Rattle.kt_cuts.specs.Standing.{at_number}
-use Rattle.kt_certify.specs.Linking.{chain_of, chained}
+use Rattle.kt_meaning.specs.Past.{Past}
+use Rattle.kt_rules.specs.Standing.{at_number}
+use Rattle.kt_meaning.specs.Linking.{chain_of, chained, AreChained, AreChainedTo}
 use Rattle.kt_certify.specs.Instances.{InstanceParts}
 use Rattle.kt_certify.specs.declared.fault.Stop.{Stop}
 use Rattle.kt_certify.specs.declared.fault.Stop.TheVariants.{NoChain, Memory}
-
--- the first so many processes have chains
-abbrev pub AreChainedTo : ℕ → Past → ℕ → Kind → ℕ → List ℕ → Type 0
-AreChainedTo n s k kind initiator joined =
-    (place p : ℕ) → place < n → slice_get joined place ≡ Some p → chain_of s k kind initiator (chained s k kind initiator (take place joined)) p ≡ None → ⊥
-
--- all of them have chains
-abbrev pub AreChained : Past → ℕ → Kind → ℕ → List ℕ → Type 0
-AreChained s k kind initiator joined = AreChainedTo (length joined) s k kind initiator joined
 
 -- those that have joined an instance have chains
 abbrev pub HasChains : Past → ℕ → InstanceParts → Type 0

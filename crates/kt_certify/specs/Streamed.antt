@@ -3,11 +3,11 @@ use Rattle.std.specs.Prelude.{◌≡◌, ℕ, Option, List, IfSome}
 use Rattle.kt_spacetime.specs.declared.event.Event.{Event}
 use Rattle.kt_log_text.specs.Reading.{rows_unread}
 use Rattle.kt_log_text.specs.Texts.{IsLogText, IsFirstLogFault}
-use Rattle.kt_chain.specs.declared.certificate.Certificate.{Certificate}
+use Rattle.kt_spacetime.specs.declared.certificate.Certificate.{Certificate}
 use Rattle.kt_checker.specs.Streamed.{SaysRows}
-use Rattle.kt_certify.specs.Certificates.{certificates}
-use Rattle.kt_certify.specs.Faults.{IsFitLog, IsUnfit}
-use Rattle.kt_certify.specs.Meant.{AreMeant}
+use Rattle.kt_meaning.specs.Certificates.{certificates}
+use Rattle.kt_meaning.specs.Fitness.{IsFitLog, IsUnfit}
+use Rattle.kt_meaning.specs.Meant.{AreMeant}
 use Rattle.kt_certify.specs.declared.fault.StreamFault.{StreamFault}
 use Rattle.kt_certify.specs.declared.fault.StreamFault.TheVariants.{Log, Unfit}
 

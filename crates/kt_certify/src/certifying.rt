@@ -1,17 +1,15 @@
 //! The certificates of a log.
 
 ghost use Rattle.std.specs.Prelude.{◌≡◌, ℕ, All, IfOk, IfErr};
-ghost use Rattle.kt_cuts.specs.Legal.{IsLegal};
+ghost use Rattle.kt_meaning.specs.Legal.{IsLegal};
 ghost use Rattle.kt_chain.specs.Spelling.{HasShortChains, records_of};
 ghost use Rattle.kt_chain.specs.Texts.{IsCertText};
-ghost use Rattle.kt_certify.specs.Certificates.{certificates};
-ghost use Rattle.kt_certify.specs.Faults.{HasNoChain, IsFaultOf, IsWhyUnfit};
-ghost use Rattle.kt_certify.specs.Meant.{AreMeant};
+ghost use Rattle.kt_meaning.specs.Certificates.{certificates};
+ghost use Rattle.kt_meaning.specs.Fitness.{HasNoChain, IsFaultOf, IsWhyUnfit};
+ghost use Rattle.kt_meaning.specs.Meant.{AreMeant};
 
-use crate::fault::CertFault;
 use crate::pass::Pass;
-use kt_chain::Certificate;
-use kt_spacetime::SpaceTime;
+use kt_spacetime::{CertFault, Certificate, SpaceTime};
 use std::alloc::Global;
 
 /// The certificates of a log, one for each decided instance by rising number, in one pass over its rows; else why there

@@ -2,14 +2,14 @@
 
 ghost use Rattle.std.specs.Prelude.{◌≡◌, ◌++◌, ◌∷◌, [], ℕ, List, IfOk, IfErr};
 ghost use Rattle.kt_spacetime.specs.declared.event.Event.{Event};
-ghost use Rattle.kt_cuts.specs.Past.{past};
+ghost use Rattle.kt_meaning.specs.Past.{past};
 ghost use Rattle.kt_walk.specs.WalkOf.{WalkOf};
-ghost use Rattle.kt_certify.specs.Linking.{least_link, chain_through, chain_of, chained};
-ghost use Rattle.kt_certify.specs.Stops.{AreChained, StopsAt};
+ghost use Rattle.kt_meaning.specs.Linking.{least_link, chain_through, chain_of, chained, AreChained};
+ghost use Rattle.kt_certify.specs.Stops.{StopsAt};
 
 use crate::fault::Stop;
 use kt_base::{InstNo, Kind, Memory, MsgNo, ProcNo};
-use kt_chain::{Chain, Members};
+use kt_spacetime::{Chain, Members};
 use kt_walk::Walk;
 use std::alloc::Global;
 

@@ -2,16 +2,16 @@
 
 ghost use Rattle.std.specs.Prelude.{◌≡◌, ℕ, true, List, IfOk, IfErr, OnOk};
 ghost use Rattle.kt_spacetime.specs.declared.event.Event.{Event};
-ghost use Rattle.kt_cuts.specs.Past.{past};
+ghost use Rattle.kt_meaning.specs.Past.{past};
 ghost use Rattle.kt_walk.specs.WalkOf.{WalkOf};
-ghost use Rattle.kt_certify.specs.Certificates.{certified};
+ghost use Rattle.kt_meaning.specs.Certificates.{certified};
 ghost use Rattle.kt_certify.specs.Instances.{new_instance, joined_by, decided_as};
 ghost use Rattle.kt_certify.specs.Stops.{HasChains, StopsBy};
 
 use crate::chains::chained;
 use crate::fault::Stop;
 use kt_base::{InstNo, Kind, Memory, ProcNo};
-use kt_chain::{Certificate, Members};
+use kt_spacetime::{Certificate, Members};
 use kt_walk::Walk;
 use std::alloc::Global;
 use std::marker::Model;

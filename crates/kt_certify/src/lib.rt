@@ -16,10 +16,7 @@ mod runs;
 mod streaming;
 
 pub use certifying::certify;
-pub use fault::{CertFault, StreamFault, Unfit};
-pub use laws::{
-    certificates_in_one_pass, certificates_of_fit_logs, certificates_of_legal_logs,
-    certificates_of_logs, linking_messages_of_walks,
-};
+pub use fault::StreamFault;
+pub use laws::{certificates_have_texts, certificates_in_one_pass, linking_messages_of_walks};
 pub use runs::certificates_of_run;
 pub use streaming::{certify_rows, certify_stream};

@@ -4,22 +4,21 @@ ghost use Rattle.std.specs.Prelude.{◌≡◌, ◌<◌, ◌^◌, ◌++◌, ◌�
 ghost use Rattle.std.specs.List.{filter_map};
 ghost use Rattle.kt_spacetime.specs.declared.event.Event.{Event};
 ghost use Rattle.kt_spacetime.specs.declared.event.Event.TheVariants as event;
-ghost use Rattle.kt_cuts.specs.Past.{past};
-ghost use Rattle.kt_cuts.specs.Legal.{IsLegal};
-ghost use Rattle.kt_cuts.specs.Standing.{at_number};
+ghost use Rattle.kt_meaning.specs.Past.{past};
+ghost use Rattle.kt_meaning.specs.Legal.{IsLegal};
+ghost use Rattle.kt_rules.specs.Standing.{at_number};
 ghost use Rattle.kt_walk.specs.WalkOf.{WalkOf};
-ghost use Rattle.kt_certify.specs.Faults.{HasNoChain};
-ghost use Rattle.kt_certify.specs.Decisions.{is_commit};
+ghost use Rattle.kt_meaning.specs.Fitness.{HasNoChain};
+ghost use Rattle.kt_meaning.specs.Decisions.{is_commit};
 ghost use Rattle.kt_certify.specs.Instances.{InstanceParts, AreInstancesOf, changed, joined_by, decided_as, instances_after};
 ghost use Rattle.kt_certify.specs.Stops.{HasChains, StopsIn, StopsOn};
 ghost use Rattle.kt_certify.specs.PassOf.{AreEntered, IsBroken, PassOf, tells_rule};
 
-use crate::fault::{Stop, Unfit};
+use crate::fault::Stop;
 use crate::instance::Instance;
 use kt_base::{InstNo, Memory, ProcNo, RowNo};
-use kt_chain::Certificate;
-use kt_cuts::LegalFault;
-use kt_spacetime::Event;
+use kt_rules::LegalFault;
+use kt_spacetime::{Certificate, Event, Unfit};
 use kt_walk::Walk;
 use std::alloc::Global;
 

@@ -2,20 +2,19 @@
 
 ghost use Rattle.std.specs.Prelude.{◌≡◌, ◌≤◌, ◌^◌, [], ℕ, false, Some, All, IfOk, OnOk, length, take, slice_get};
 ghost use Rattle.kt_spacetime.specs.declared.event.Event.{Event};
-ghost use Rattle.kt_cuts.specs.Legal.{IsLegal};
+ghost use Rattle.kt_meaning.specs.Legal.{IsLegal};
 ghost use Rattle.kt_chain.specs.Spelling.{HasShortChains, records_of};
 ghost use Rattle.kt_chain.specs.Texts.{IsCertText};
-ghost use Rattle.kt_certify.specs.Certificates.{certificates};
-ghost use Rattle.kt_certify.specs.Decisions.{is_commit};
-ghost use Rattle.kt_certify.specs.Faults.{HasNoChain};
+ghost use Rattle.kt_meaning.specs.Certificates.{certificates};
+ghost use Rattle.kt_meaning.specs.Decisions.{is_commit};
+ghost use Rattle.kt_meaning.specs.Fitness.{HasNoChain};
 ghost use Rattle.kt_certify.specs.Instances.{AreInstancesOf};
-ghost use Rattle.kt_certify.specs.Meant.{AreMeant};
+ghost use Rattle.kt_meaning.specs.Meant.{AreMeant};
 ghost use Rattle.kt_walk.specs.WalkOf.{WalkOf};
 
 use crate::pass::Pass;
 use kt_base::Memory;
-use kt_chain::Certificate;
-use kt_spacetime::{Event, SpaceTime};
+use kt_spacetime::{Certificate, Event, SpaceTime};
 use std::alloc::Global;
 
 /// The certificates of a log as `certify` makes them, where the log is legal and no member lacks a chain, as in the log of

@@ -11,9 +11,8 @@ ghost use Rattle.kt_certify.specs.Streamed.{AreCertified, IsFaultOfBytes};
 use crate::fault::StreamFault;
 use crate::pass::Pass;
 use kt_base::Memory;
-use kt_chain::Certificate;
 use kt_log_text::{Record, RowReader};
-use kt_spacetime::Event;
+use kt_spacetime::{Certificate, Event};
 use std::alloc::Global;
 use std::io::Read;
 

@@ -3,7 +3,7 @@ use Rattle.std.proofs.Common.{◌≡◌, ◌≢◌, ◌∙◌, ◌<◌, ℕ, Lis
 use Rattle.std.specs.Prelude.{◌⊎◌}
 use Rattle.std.proofs.lemmas.Bool.{cases_lt}
 use Rattle.kt_text.proofs.FieldFacts.{Records, first_and_rest, field_1, field_2, field_3, field_4}
-use Rattle.kt_chain.specs.declared.certificate.Certificate.{Certificate}
+use Rattle.kt_spacetime.specs.declared.certificate.Certificate.{Certificate}
 use Rattle.kt_chain.specs.declared.fault.CertTextFault.{CertTextFault}
 use Rattle.kt_chain.specs.declared.records.RecordFault.{RecordFault}
 use Rattle.kt_chain.specs.declared.records.RecordFault.TheVariants as fault

@@ -4,7 +4,7 @@ use Rattle.std.specs.Prelude.{All, option_map}
 use Rattle.std.proofs.lemmas.List.Elements.{All-weaker}
 use Rattle.csv.specs.Reading.{default_config, strip_bom, records}
 use Rattle.kt_text.specs.Records.{FieldsTaken as TakesRecord}
-use Rattle.kt_chain.specs.declared.certificate.Certificate.{Certificate}
+use Rattle.kt_spacetime.specs.declared.certificate.Certificate.{Certificate}
 use Rattle.kt_chain.specs.declared.fault.CertTextFault.{CertTextFault}
 use Rattle.kt_chain.specs.declared.fault.CertTextFault.TheVariants.{TooLong}
 use Rattle.kt_chain.specs.declared.records.RecordFault.{RecordFault}

@@ -4,7 +4,7 @@ use Rattle.std.specs.Prelude.{All}
 use Rattle.std.proofs.lemmas.List.{map-append, append-nil}
 use Rattle.std.proofs.lemmas.List.Elements.{All-push, All-cons, All-tail, All-head, All-nil}
 use Rattle.std.proofs.lemmas.List.Concat.{flat_map-append}
-use Rattle.kt_chain.specs.declared.certificate.Certificate.{Certificate}
+use Rattle.kt_spacetime.specs.declared.certificate.Certificate.{Certificate}
 use Rattle.kt_chain.specs.Spelling.{Member, instance_record, member_record, certificate_records, records_of, IsMemberInRange, IsCertificateWithin}
 use Rattle.kt_chain.specs.Texts.{IsOtherInstance}
 use Rattle.kt_chain.specs.Reading.{CertificateTaken}

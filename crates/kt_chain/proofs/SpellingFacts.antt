@@ -10,7 +10,7 @@ use Rattle.kt_base.specs.declared.words.Kind.{Kind}
 use Rattle.kt_base.specs.declared.words.Kind.TheVariants.{Checkpoint, Rollback}
 use Rattle.kt_text.specs.Words.{kind_word, decision_word}
 use Rattle.kt_text.proofs.FieldFacts.{Records, first_and_rest, field_1, field_2, field_3, field_4}
-use Rattle.kt_chain.specs.declared.certificate.Certificate.{Certificate}
+use Rattle.kt_spacetime.specs.declared.certificate.Certificate.{Certificate}
 use Rattle.kt_chain.specs.Spelling.{Member, chain_word, instance_record, member_record, certificate_records, records_of, IsMemberInRange, IsCertificateWithin}
 use Rattle.kt_chain.proofs.ChainFacts.{parts_in, parts_back, digits}
 

@@ -6,7 +6,7 @@ use Rattle.std.specs.Fmt.{decimal}
 use Rattle.std.specs.Io.{StartsWith}
 use Rattle.kt_text.specs.Writing.{line_of, text_of, Sends, WritesFront}
 use Rattle.kt_text.proofs.PieceFacts.{sends_more, sends_gathered, sends_nothing, text_more, starts, items_more, front_after, front_last, records_front}
-use Rattle.kt_chain.specs.declared.certificate.Certificate.{Certificate}
+use Rattle.kt_spacetime.specs.declared.certificate.Certificate.{Certificate}
 use Rattle.kt_chain.specs.Spelling.{Member, instance_record, member_record, certificate_records, records_of, chain_word, marked}
 
 -- the numbers of a chain joined by marks are its marked numbers without the first mark

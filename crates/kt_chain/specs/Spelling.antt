@@ -4,7 +4,7 @@ use Rattle.std.specs.List.{flat_map, join_with_byte}
 use Rattle.std.specs.Fmt.{decimal}
 use Rattle.kt_base.specs.Numbers.{IsProcNo, IsMsgNo, IsInstNo}
 use Rattle.kt_text.specs.Words.{kind_word, decision_word}
-use Rattle.kt_chain.specs.declared.certificate.Certificate.{Certificate}
+use Rattle.kt_spacetime.specs.declared.certificate.Certificate.{Certificate}
 
 -- a member and the messages of its chain
 abbrev pub Member : Type 0

@@ -4,7 +4,7 @@ use Rattle.std.specs.Fmt.{decimal}
 use Rattle.kt_base.specs.Numbers.{IsProcNo, IsMsgNo, IsInstNo}
 use Rattle.kt_base.specs.declared.words.Kind.{Kind}
 use Rattle.kt_text.specs.Words.{kind_word, decision_word}
-use Rattle.kt_chain.specs.declared.certificate.Certificate.{Certificate}
+use Rattle.kt_spacetime.specs.declared.certificate.Certificate.{Certificate}
 use Rattle.kt_chain.specs.declared.fault.CertTextFault.{CertTextFault}
 use Rattle.kt_chain.specs.declared.fault.CertTextFault.TheVariants.{Read, TooLong, Fields, Word, Number, Place, Memory}
 use Rattle.kt_chain.specs.declared.records.RecordFault.{RecordFault}

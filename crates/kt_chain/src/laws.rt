@@ -1,7 +1,7 @@
 //! Laws of certificates and their texts; there is nothing to run.
 
 ghost use Rattle.std.specs.Prelude.{◌≡◌, ℕ, List, length, All};
-ghost use Rattle.kt_chain.specs.declared.certificate.Certificate.{Certificate as claims};
+ghost use Rattle.kt_spacetime.specs.declared.certificate.Certificate.{Certificate as claims};
 ghost use Rattle.kt_chain.specs.declared.fault.CertTextFault.{CertTextFault as text_faults};
 ghost use Rattle.kt_chain.specs.Spelling.{IsCertificateWithin, records_of};
 ghost use Rattle.kt_chain.specs.Texts.{IsCertText, IsFirstCertificateFault, IsOfCertificates};

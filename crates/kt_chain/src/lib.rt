@@ -4,14 +4,12 @@
 //! `writing.rt`; `laws.rt`.
 #![tactic(auto)]
 
-mod certificate;
 mod fault;
 mod laws;
 mod reading;
 mod records;
 mod writing;
 
-pub use certificate::{Certificate, Chain, Members};
 pub use fault::CertTextFault;
 pub use laws::{faults_are_real, one_spelling};
 pub use reading::{read_certs, read_certs_in};

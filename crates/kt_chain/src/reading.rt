@@ -6,10 +6,10 @@ ghost use Rattle.kt_chain.specs.Spelling.{IsCertificateWithin, HasShortChains};
 ghost use Rattle.kt_chain.specs.Texts.{IsCertText, IsFirstCertificateFault};
 ghost use Rattle.kt_text.specs.Records.{ReadsOn, left_in};
 
-use crate::certificate::Certificate;
 use crate::fault::CertTextFault;
 use crate::records::take_record;
 use csv::{ByteRecord, Reader};
+use kt_spacetime::Certificate;
 use kt_text::records::{next_record, read_records};
 use std::alloc::Global;
 use std::io::Read;

@@ -12,10 +12,10 @@ ghost use Rattle.kt_chain.specs.Texts as slot;
 ghost use Rattle.kt_chain.specs.declared.records.RecordFault.TheVariants as fault;
 ghost use Rattle.kt_chain.specs.Reading.{IsIfFew, OrMemory, CertificateTaken};
 
-use crate::certificate::{Certificate, Chain, Members};
 use crate::fault::CertTextFault;
 use csv::ByteRecord;
 use kt_base::{InstNo, Kind, Memory, ProcNo};
+use kt_spacetime::{Certificate, Chain, Members};
 use kt_text::fields::{decision_of, instance_of, kind_of, message_of, number_of, process_of};
 use std::alloc::{AllocFailed, Global};
 

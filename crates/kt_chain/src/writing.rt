@@ -6,8 +6,8 @@ ghost use Rattle.std.specs.Fmt.{decimal};
 ghost use Rattle.kt_text.specs.Writing.{Sends, WritesFront, joined, line_of, text_of};
 ghost use Rattle.kt_chain.specs.Spelling.{Member, instance_record, member_record, certificate_records, records_of, chain_word, marked, HasShortChains};
 
-use crate::certificate::{Certificate, Chain};
 use kt_base::{InstNo, Memory, MsgNo, ProcNo};
+use kt_spacetime::{Certificate, Chain};
 use kt_text::WriteFault;
 use kt_text::fields::{decision_text, kind_text};
 use kt_text::lines::Line;

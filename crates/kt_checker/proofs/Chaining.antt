@@ -1,59 +1,29 @@
 -- Chains and cuts of a certificate, by what histories answer.
-use Rattle.std.proofs.Common.{◌≡◌, ◌≢◌, ℕ, zero, suc, ◌+◌, ◌-◌, ◌<◌, ◌≤◌, if◌then◌else◌, Bool, true, false, Option, Some, None, option_map, List, [], ◌∷◌, ◌++◌, map, length, take, drop, refl, sym, ap, ◌∙◌, subst, arith, inl, inr}
+use Rattle.std.proofs.Common.{◌≡◌, ◌≢◌, ℕ, zero, suc, ◌+◌, ◌-◌, ◌<◌, ◌≤◌, Bool, true, false, Option, Some, None, option_map, List, [], ◌∷◌, ◌++◌, map, length, take, drop, refl, sym, ap, ◌∙◌, subst, arith, inl, inr}
 use Rattle.std.specs.List.{slice_get, Contains}
 use Rattle.std.specs.Prelude.{◌||◌, ◌↔◌, not, is_some, IsTrue, IfSome, IfNone}
 use Rattle.kt_base.specs.Sets.{has}
-use Rattle.std.specs.Option.{option_flatten}
 use Rattle.std.proofs.lemmas.Bool.{cases_lt}
 use Rattle.std.proofs.lemmas.Option.{slice_get-get_or, slice_get-map}
 use Rattle.std.proofs.lemmas.List.{length-map}
 use Rattle.kt_base.specs.declared.words.Kind.{Kind}
 use Rattle.kt_base.specs.declared.words.Kind.TheVariants.{Checkpoint, Rollback}
 use Rattle.kt_spacetime.specs.declared.event.Event.{Event}
-use Rattle.kt_cuts.specs.declared.deeds.Deed.{Deed}
-use Rattle.kt_cuts.specs.declared.deeds.Deed.TheVariants as deed
-use Rattle.kt_cuts.specs.declared.traces.Trace.{Trace}
-use Rattle.kt_cuts.specs.Past.{Past, past}
-use Rattle.kt_cuts.specs.Legal.{is_deed, has_deed}
-use Rattle.kt_cuts.specs.Chains.{IsCheckpointChain, IsRollbackChain}
-use Rattle.kt_cuts.specs.Cuts.{part, IsOrphan, IsConsistent}
-use Rattle.kt_cuts.specs.Orphans.{IsOrphanBetween}
-use Rattle.kt_cuts.specs.Messages.{row_at}
-use Rattle.kt_cuts.specs.Standing.{parties_of_row}
-use Rattle.kt_cuts.specs.Traces.{place_of, trace_between, trace_of}
-use Rattle.kt_cuts.proofs.Items.{get_in_take, item_there}
-use Rattle.kt_cuts.proofs.SortedFacts.{some_same}
-use Rattle.kt_cuts.proofs.DeedFacts.{same_deed, has_at}
-use Rattle.kt_cuts.proofs.Consistency.{consistent_from, consistent_sent, consistent_without, no_orphan}
-use Rattle.kt_cuts.proofs.OrphanFacts.{between_of, get_from_drop, orphan_of}
-use Rattle.kt_checker.specs.Passing.{IsChain}
-
--- a place that is found, counted from 1
-pub place_found : (d : Deed) (l : List Deed) (n : ℕ) → place_of d l ≡ Some n → (i : ℕ) × (n ≡ i + 1) × (slice_get l i ≡ Some d)
-place_found d [] n e = absurd (cc)
-place_found d (x ∷ l) n e = at_test (is_deed d x) refl e (place_found d l)
-  where
-    at_test : (b : Bool) → is_deed d x ≡ b → (if b then Some 1 else option_map suc (place_of d l)) ≡ Some n → ((m : ℕ) → place_of d l ≡ Some m → (i : ℕ) × (m ≡ i + 1) × (slice_get l i ≡ Some d)) → (i : ℕ) × (n ≡ i + 1) × (slice_get (x ∷ l) i ≡ Some d)
-    at_test true is e rest = (0, sym (some_same e), ap Some (same_deed d x is))
-    at_test false is e rest = later (place_of d l) refl e rest
-      where
-        later : (o : Option ℕ) → place_of d l ≡ o → option_map suc o ≡ Some n → ((m : ℕ) → place_of d l ≡ Some m → (i : ℕ) × (m ≡ i + 1) × (slice_get l i ≡ Some d)) → (i : ℕ) × (n ≡ i + 1) × (slice_get (x ∷ l) i ≡ Some d)
-        later None p e rest = absurd (cc)
-        later (Some m) p e rest =
-            let there = rest m p in
-            let next : suc m ≡ n = some_same e in
-            (suc there.0, omega (arith, there.1, next), there.2)
-
--- what a trace says
-pub trace_parts : (rows : List Event) (m : ℕ) (t : Trace) → trace_of rows m ≡ Some t
-    → (t.sent ≡ place_of (deed.Sent m t.to) ((past rows).live t.from)) × (t.received ≡ place_of (deed.Received m t.from) ((past rows).live t.to))
-trace_parts rows m t e = between (option_flatten (option_map parties_of_row (row_at rows m))) e
-  where
-    between : (o : Option (ℕ × ℕ)) → trace_between (past rows) m o ≡ Some t → (t.sent ≡ place_of (deed.Sent m t.to) ((past rows).live t.from)) × (t.received ≡ place_of (deed.Received m t.from) ((past rows).live t.to))
-    between None e = absurd (cc)
-    between (Some (p, q)) e =
-        let same = some_same e in
-        (subst (λ (x : Trace). x.sent ≡ place_of (deed.Sent m x.to) ((past rows).live x.from)) same refl, subst (λ (x : Trace). x.received ≡ place_of (deed.Received m x.from) ((past rows).live x.to)) same refl)
+use Rattle.kt_spacetime.specs.declared.deeds.Deed.{Deed}
+use Rattle.kt_spacetime.specs.declared.deeds.Deed.TheVariants as deed
+use Rattle.kt_rules.specs.declared.traces.Trace.{Trace}
+use Rattle.kt_meaning.specs.Past.{Past, past}
+use Rattle.kt_meaning.specs.Legal.{has_deed}
+use Rattle.kt_meaning.specs.Chains.{IsCheckpointChain, IsRollbackChain}
+use Rattle.kt_meaning.specs.Cuts.{part, IsOrphan, IsConsistent}
+use Rattle.kt_rules.specs.Orphans.{IsOrphanBetween}
+use Rattle.kt_rules.specs.Traces.{place_of, trace_of}
+use Rattle.kt_meaning.proofs.Items.{get_in_take, item_there, some_same, get_from_drop}
+use Rattle.kt_rules.proofs.DeedFacts.{has_at}
+use Rattle.kt_meaning.proofs.Consistency.{consistent_from, consistent_sent, consistent_without, no_orphan}
+use Rattle.kt_rules.proofs.OrphanFacts.{between_of, orphan_of}
+use Rattle.kt_meaning.specs.Passing.{IsChain}
+use Rattle.kt_rules.proofs.Traced.{never, place_found, trace_parts}
 
 sent_past : (d : Deed) (l : List Deed) (n place : ℕ) → place_of d l ≡ Some place → n < place → has_deed d (drop n l) ≡ true
 sent_past d l n place e low =
@@ -98,9 +68,6 @@ none_listed ms p never (k, l, e) =
     let listed : slice_get (map (λ m. m.0) ms) k ≡ Some (there.0.0) = slice_get-map (λ m. m.0) ms k ∙ ap (option_map (λ m. m.0)) there.1 in
     let same : there.0.0 ≡ p = some_same (sym listed ∙ (slice_get-get_or (map (λ m. m.0) ms) k p l ∙ ap Some e)) in
     never k there.0.0 there.0.1 there.1 same
-
-pub never : false ≡ true → ⊥
-never e = cc
 
 -- lists of one length that agree at each place
 pub same_lists : (ms : List (ℕ × List ℕ)) (xs : List ℕ) → length ms ≡ length xs → ((k q : ℕ) (chain : List ℕ) → slice_get ms k ≡ Some (q, chain) → slice_get xs k ≡ Some q) → map (λ m. m.0) ms ≡ xs

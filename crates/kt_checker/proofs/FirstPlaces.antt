@@ -6,10 +6,9 @@ use Rattle.std.proofs.lemmas.List.{length-set}
 use Rattle.std.proofs.lemmas.Option.{slice_get-get_or, slice_get_within, get_or_from_slice_get}
 use Rattle.std.proofs.lemmas.List.Elements.{All-get_or}
 use Rattle.std.specs.Prelude.{All}
-use Rattle.kt_cuts.proofs.Items.{get_set_same, get_set_other}
-use Rattle.kt_cuts.proofs.SortedFacts.{some_same}
-use Rattle.kt_chain.specs.declared.certificate.Certificate.{Certificate}
-use Rattle.kt_checker.specs.Passing.{IsSecond}
+use Rattle.kt_meaning.proofs.Items.{get_set_same, get_set_other, some_same}
+use Rattle.kt_spacetime.specs.declared.certificate.Certificate.{Certificate}
+use Rattle.kt_meaning.specs.Passing.{IsSecond}
 use Rattle.kt_checker.specs.Judged.{IsFirstOfInstance, AreFirsts, IsFirstCertificate}
 
 -- one more certificate, which is not the first of this instance

@@ -6,11 +6,11 @@ use Rattle.std.proofs.lemmas.List.{map-append, take-take, take_all, take-append-
 use Rattle.std.proofs.lemmas.Option.{slice_get_within}
 use Rattle.kt_base.specs.declared.words.Kind.{Kind}
 use Rattle.kt_base.specs.declared.words.Kind.TheVariants.{Checkpoint, Rollback}
-use Rattle.kt_cuts.specs.Past.{Past}
-use Rattle.kt_cuts.proofs.Items.{get_push, get_take, in_take}
-use Rattle.kt_chain.specs.declared.certificate.Certificate.{Certificate}
+use Rattle.kt_meaning.specs.Past.{Past}
+use Rattle.kt_meaning.proofs.Items.{get_push, get_take, in_take}
+use Rattle.kt_spacetime.specs.declared.certificate.Certificate.{Certificate}
 use Rattle.kt_checker.specs.declared.path.Step.{Step}
-use Rattle.kt_checker.specs.Passing.{IsChain}
+use Rattle.kt_meaning.specs.Passing.{IsChain}
 use Rattle.kt_checker.specs.Followed.{message_of, IsPath, IsPathOf}
 use Rattle.kt_checker.proofs.Chaining.{chain_more}
 

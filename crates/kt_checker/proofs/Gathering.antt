@@ -11,19 +11,19 @@ use Rattle.kt_base.specs.declared.words.Cause.{Cause}
 use Rattle.kt_base.specs.declared.words.Verb.{Verb}
 use Rattle.kt_spacetime.specs.declared.event.Event.{Event}
 use Rattle.kt_spacetime.specs.declared.event.Event.TheVariants as event
-use Rattle.kt_cuts.specs.Past.{Past, past}
-use Rattle.kt_cuts.specs.Legal.{has_begun}
-use Rattle.kt_cuts.specs.Chains.{members}
-use Rattle.kt_cuts.specs.Standing.{at_number}
-use Rattle.kt_cuts.proofs.Items.{get_left, get_push, get_seam, item_there, set_mapped}
-use Rattle.kt_cuts.proofs.MessageTables.{number_at, number_set_same, number_set_other}
-use Rattle.kt_cuts.proofs.InstanceSteps.{old_item, new_item, no_item}
-use Rattle.kt_cuts.proofs.LegalLogs.{past_push}
-use Rattle.kt_cuts.proofs.Members.{members_push}
-use Rattle.kt_chain.specs.declared.certificate.Certificate.{Certificate}
+use Rattle.kt_meaning.specs.Past.{Past, past}
+use Rattle.kt_meaning.specs.Legal.{has_begun}
+use Rattle.kt_meaning.specs.Chains.{members}
+use Rattle.kt_rules.specs.Standing.{at_number}
+use Rattle.kt_meaning.proofs.Items.{get_left, get_push, get_seam, item_there, set_mapped}
+use Rattle.kt_rules.proofs.MessageTables.{number_at, number_set_same, number_set_other}
+use Rattle.kt_rules.proofs.InstanceSteps.{old_item, new_item, no_item}
+use Rattle.kt_meaning.proofs.LegalLogs.{past_push}
+use Rattle.kt_meaning.proofs.Members.{members_push}
+use Rattle.kt_spacetime.specs.declared.certificate.Certificate.{Certificate}
 use Rattle.kt_checker.specs.declared.decisions.Instance.{Instance}
 use Rattle.kt_checker.specs.declared.decisions.Decision.{Decision}
-use Rattle.kt_checker.specs.Unwilling.{is_unwilling, has_unwilling}
+use Rattle.kt_meaning.specs.Unwilling.{is_unwilling, has_unwilling}
 use Rattle.kt_checker.specs.Gathered.{Gathered, IsDecision, IsFoundFirst, beginning_gathered, members_gathered, refused_gathered, decision_gathered}
 
 unwilling_push : (rows : List Event) (row : Event) (k : ℕ) → has_unwilling (rows ++ row ∷ []) k ≡ (has_unwilling rows k || is_unwilling k row)

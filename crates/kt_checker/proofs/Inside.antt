@@ -4,14 +4,14 @@ use Rattle.std.specs.List.{slice_index}
 use Rattle.kt_base.specs.declared.words.Kind.{Kind}
 use Rattle.kt_base.specs.declared.words.Kind.TheVariants.{Checkpoint, Rollback}
 use Rattle.kt_spacetime.specs.declared.event.Event.{Event}
-use Rattle.kt_cuts.specs.Past.{past}
-use Rattle.kt_cuts.specs.Legal.{IsLegal, is_undecided}
-use Rattle.kt_cuts.specs.Cuts.{IsConsistent, permanent_cut, present_cut}
-use Rattle.kt_cuts.specs.Throughout.{HasConsistentDecisions}
-use Rattle.kt_cuts.proofs.Consistency.{consistent, sound_log}
+use Rattle.kt_meaning.specs.Past.{past}
+use Rattle.kt_meaning.specs.Legal.{IsLegal, is_undecided}
+use Rattle.kt_meaning.specs.Cuts.{IsConsistent, permanent_cut, present_cut}
+use Rattle.kt_meaning.specs.Throughout.{HasConsistentDecisions}
+use Rattle.kt_meaning.proofs.Consistency.{consistent, sound_log}
 use Rattle.kt_walk.specs.Arrivals.{KeepsPermanent}
 use Rattle.kt_walk.proofs.WalkLinks.{new_between, permanent_inside}
-use Rattle.kt_checker.specs.Passing.{decided_cut, earlier_cut}
+use Rattle.kt_meaning.specs.Passing.{decided_cut, earlier_cut}
 
 decided_inside : (rows : List Event) (k : ℕ) (kind : Kind) (p : ℕ) → IsLegal rows → is_undecided (past rows) k ≡ true → (past rows).permanent p ≤ decided_cut (past rows) k kind p
 decided_inside rows k Checkpoint p l u = at_new ((past rows).new k p) refl

@@ -8,28 +8,28 @@ use Rattle.std.proofs.lemmas.Option.{slice_get_within}
 use Rattle.kt_base.specs.declared.words.Kind.{Kind}
 use Rattle.kt_spacetime.specs.declared.event.Event.{Event}
 use Rattle.kt_spacetime.specs.declared.event.Event.TheVariants as event
-use Rattle.kt_cuts.specs.declared.rules.Rule.{Rule}
-use Rattle.kt_cuts.specs.Past.{Past, Beginning, past, start, after, kind_of}
-use Rattle.kt_cuts.specs.Cuts.{IsConsistent}
-use Rattle.kt_cuts.specs.Throughout.{HasConsistentDecisions, LeavesConsistent}
-use Rattle.kt_cuts.proofs.Items.{get_push}
-use Rattle.kt_cuts.specs.Legal.{IsLegal, broken_rule, first_broken_after, or_later, is_undecided}
-use Rattle.kt_cuts.specs.Chains.{members}
-use Rattle.kt_cuts.specs.Standing.{at_number}
-use Rattle.kt_cuts.proofs.SortedFacts.{some_same}
-use Rattle.kt_cuts.proofs.LegalLogs.{kept, legal_last}
-use Rattle.kt_chain.specs.declared.certificate.Certificate.{Certificate}
+use Rattle.kt_spacetime.specs.declared.rules.Rule.{Rule}
+use Rattle.kt_meaning.specs.Past.{Past, Beginning, past, start, after, kind_of}
+use Rattle.kt_meaning.specs.Cuts.{IsConsistent}
+use Rattle.kt_meaning.specs.Throughout.{HasConsistentDecisions, LeavesConsistent}
+use Rattle.kt_meaning.proofs.Items.{get_push, some_same}
+use Rattle.kt_meaning.specs.Legal.{IsLegal, broken_rule, first_broken_after, or_later, is_undecided}
+use Rattle.kt_meaning.specs.Chains.{members}
+use Rattle.kt_rules.specs.Standing.{at_number}
+use Rattle.kt_meaning.proofs.LegalLogs.{kept, legal_last}
+use Rattle.kt_spacetime.specs.declared.certificate.Certificate.{Certificate}
 use Rattle.kt_checker.specs.declared.decisions.Instance.{Instance}
-use Rattle.kt_checker.specs.declared.verdict.Verdict.{Verdict}
-use Rattle.kt_checker.specs.declared.verdict.Why.{Why}
-use Rattle.kt_checker.specs.Unwilling.{has_unwilling}
+use Rattle.kt_spacetime.specs.declared.verdict.Verdict.{Verdict}
+use Rattle.kt_spacetime.specs.declared.verdict.Why.{Why}
+use Rattle.kt_meaning.specs.Unwilling.{has_unwilling}
 use Rattle.kt_checker.specs.Gathered.{Gathered, IsFinding, IsFoundFirst, beginning_gathered, members_gathered, refused_gathered}
-use Rattle.kt_checker.specs.Passing.{IsSecond, ListsReadyOf, decided_cut}
+use Rattle.kt_meaning.specs.Passing.{IsSecond, ListsReadyOf, decided_cut}
 use Rattle.kt_checker.specs.Judged.{IsFirstOfInstance}
-use Rattle.kt_checker.specs.Order.{IsBadLog}
+use Rattle.kt_meaning.specs.Answers.{IsBadLog}
 use Rattle.kt_checker.proofs.Gathering.{begun_gathered}
 use Rattle.kt_checker.proofs.FirstPlaces.{the_first}
-use Rattle.kt_checker.proofs.Sound.{beginning_listed, checkpoint_kind, ready_in_joined, rollback_kind}
+use Rattle.kt_checker.proofs.Sound.{beginning_listed, ready_in_joined}
+use Rattle.kt_meaning.proofs.Sound.{checkpoint_kind, rollback_kind}
 
 -- what was found of the certificate at the place of an instance's first one
 pub found_of : {certs : List Certificate} (list : List Instance) (rows : List Event) (k : ℕ) (v : Instance) (commit : Bool) (fault : Option Why) (c : Certificate) (n place : ℕ) → Gathered certs list rows → at_number list k ≡ Some v

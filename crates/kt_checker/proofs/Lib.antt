@@ -1,7 +1,6 @@
 pub mod Gathering
 pub mod Chaining
 pub mod Links
-pub mod Deciding
 pub mod Sound
 pub mod Marking
 pub mod Answering
@@ -9,5 +8,5 @@ pub mod FirstPlaces
 pub mod Judging
 pub mod RowByRow
 pub mod Inside
-pub mod OneAnswer
 pub mod Following
+pub mod TextAnswers

@@ -7,23 +7,23 @@ use Rattle.std.proofs.lemmas.Bool.{cases_eq, cases_lt}
 use Rattle.kt_base.specs.declared.words.Kind.{Kind}
 use Rattle.kt_base.specs.declared.words.Kind.TheVariants.{Checkpoint, Rollback}
 use Rattle.kt_spacetime.specs.declared.event.Event.{Event}
-use Rattle.kt_cuts.specs.declared.deeds.Deed.{Deed}
-use Rattle.kt_cuts.specs.declared.deeds.Deed.TheVariants as deed
-use Rattle.kt_cuts.specs.declared.traces.Trace.{Trace}
-use Rattle.kt_cuts.specs.Past.{Past, past}
-use Rattle.kt_cuts.specs.Legal.{IsLegal, has_deed}
-use Rattle.kt_cuts.specs.Chains.{LinksCheckpoint, LinksRollback}
-use Rattle.kt_cuts.specs.Standing.{parties_of_row}
-use Rattle.kt_cuts.specs.Traces.{place_of, trace_between, trace_of}
+use Rattle.kt_spacetime.specs.declared.deeds.Deed.{Deed}
+use Rattle.kt_spacetime.specs.declared.deeds.Deed.TheVariants as deed
+use Rattle.kt_rules.specs.declared.traces.Trace.{Trace}
+use Rattle.kt_meaning.specs.Past.{Past, past}
+use Rattle.kt_meaning.specs.Legal.{IsLegal, has_deed}
+use Rattle.kt_meaning.specs.Chains.{LinksCheckpoint, LinksRollback}
+use Rattle.kt_rules.specs.Standing.{parties_of_row}
+use Rattle.kt_rules.specs.Traces.{place_of, trace_between, trace_of}
 use Rattle.kt_walk.specs.Keeping.{kept_trace}
 use Rattle.kt_walk.proofs.WalkLinks.{pair_state_kept}
-use Rattle.kt_cuts.proofs.Items.{get_take, in_take}
-use Rattle.kt_cuts.proofs.SortedFacts.{some_same}
-use Rattle.kt_cuts.proofs.DeedFacts.{place_of_deed, has_at}
-use Rattle.kt_cuts.proofs.Places.{sent_places, received_places, deed_once, rowed}
-use Rattle.kt_cuts.proofs.Traced.{place_at}
-use Rattle.kt_checker.specs.Passing.{IsChain, IsListOf}
-use Rattle.kt_checker.proofs.Chaining.{trace_parts, received_within, rollback_step}
+use Rattle.kt_meaning.proofs.Items.{get_take, in_take, some_same}
+use Rattle.kt_meaning.proofs.DeedFacts.{place_of_deed}
+use Rattle.kt_rules.proofs.DeedFacts.{has_at}
+use Rattle.kt_meaning.proofs.Places.{sent_places, received_places, deed_once, rowed}
+use Rattle.kt_rules.proofs.Traced.{place_at, trace_parts}
+use Rattle.kt_meaning.specs.Passing.{IsChain, IsListOf}
+use Rattle.kt_checker.proofs.Chaining.{received_within, rollback_step}
 
 -- what a trace says of a message that leads from a process of an instance to the next one
 abbrev pub Leads : Past → ℕ → Kind → ℕ → ℕ → Trace → ℕ → Type 0
@@ -224,9 +224,6 @@ no_way rows k kind q xs m ys at p l to never whole =
     let same = one_end rows k kind q xs split.0 at l split.2 to in
     never split.1 (subst (λ (x : ℕ). IsChain (past rows) k kind x (m ∷ []) split.1) same split.3)
 
-pub same_is : (a b : ℕ) → a ≡ b → (a == b) ≡ true
-same_is a b e = grind (arith, nat_tests, e)
-
 -- numbers that are not told apart are the same
 pub same_from : (a b : ℕ) → false ≡ not (a == b) → a ≡ b
 same_from a b e = elim (cases_eq a b) [
@@ -243,12 +240,6 @@ same_from a b e = elim (cases_eq a b) [
 -- a list is a chain for another than the initiator where it leads there
 pub list_of_other : (s : Past) (k : ℕ) (kind : Kind) (initiator p : ℕ) (chain : List ℕ) → p ≢ initiator → IsChain s k kind initiator chain p → IsListOf s k kind initiator p chain
 list_of_other s k kind initiator p chain other h = record { none = λ same. absurd (other same); leads = λ again. h }
-
-pub other_from : (a b : ℕ) → false ≡ (a == b) → a ≢ b
-other_from a b e = λ same. absurd (clash (e ∙ same_is a b same))
-  where
-    clash : false ≡ true → ⊥
-    clash x = cc
 
 -- a list around one of its items
 pub around : (xs : List ℕ) (i x : ℕ) → slice_get xs i ≡ Some x → xs ≡ take i xs ++ x ∷ drop (i + 1) xs

@@ -6,14 +6,14 @@ use Rattle.std.proofs.lemmas.Bool.{cases_eq}
 use Rattle.std.proofs.lemmas.Option.{slice_get_within}
 use Rattle.kt_spacetime.specs.declared.event.Event.{Event}
 use Rattle.kt_spacetime.specs.declared.event.Event.TheVariants as event
-use Rattle.kt_cuts.specs.Standing.{at_number}
-use Rattle.kt_cuts.proofs.SortedFacts.{some_same}
-use Rattle.kt_chain.specs.declared.certificate.Certificate.{Certificate}
+use Rattle.kt_rules.specs.Standing.{at_number}
+use Rattle.kt_meaning.proofs.Items.{some_same}
+use Rattle.kt_spacetime.specs.declared.certificate.Certificate.{Certificate}
 use Rattle.kt_checker.specs.declared.decisions.Instance.{Instance}
 use Rattle.kt_checker.specs.declared.decisions.Decision.{Decision}
 use Rattle.kt_checker.specs.Gathered.{Gathered, IsDecision, decision_gathered}
 use Rattle.kt_checker.specs.Missing.{AreSeenBefore}
-use Rattle.kt_checker.specs.Passing.{IsSecond, HasCertificate}
+use Rattle.kt_meaning.specs.Passing.{IsSecond, HasCertificate}
 
 -- the decided row that was gathered of an instance
 pub decided_row : {certs : List Certificate} (list : List Instance) (rows : List Event) (k : ℕ) (v : Instance) (d : Decision) → Gathered certs list rows → at_number list k ≡ Some v → v.decision ≡ Some d → IsDecision certs rows k (Some d)

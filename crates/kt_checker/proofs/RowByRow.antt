@@ -4,17 +4,18 @@ use Rattle.kt_spacetime.specs.declared.event.Event.{Event}
 use Rattle.kt_log_text.specs.Reading.{RowsRead, GivesRow, MeetsEnd, rows_unread}
 use Rattle.kt_log_text.specs.Progress.{GathersRows}
 use Rattle.kt_log_text.proofs.GatherFacts.{gathers_more, gathers_none, gathered_all, most_rows_le}
-use Rattle.kt_chain.specs.declared.certificate.Certificate.{Certificate}
+use Rattle.kt_spacetime.specs.declared.certificate.Certificate.{Certificate}
 use Rattle.kt_checker.specs.declared.judge.Judge.{Judge}
-use Rattle.kt_checker.specs.declared.verdict.Verdict.{Verdict}
-use Rattle.kt_checker.specs.declared.verdict.Verdict.TheVariants.{Yes}
-use Rattle.kt_checker.specs.Order.{IsCheckerAnswer, IsBadLog}
-use Rattle.kt_checker.specs.Soundness.{IsSound}
+use Rattle.kt_spacetime.specs.declared.verdict.Verdict.{Verdict}
+use Rattle.kt_spacetime.specs.declared.verdict.Verdict.TheVariants.{Yes}
+use Rattle.kt_meaning.specs.Answers.{IsCheckerAnswer, IsBadLog}
+use Rattle.kt_meaning.specs.Soundness.{IsSound}
 use Rattle.kt_checker.specs.Streamed.{IsAnswerOf}
 use Rattle.kt_checker.specs.Judged.{JudgeOf, IsFew}
 use Rattle.kt_checker.proofs.Judging.{bad_more}
-use Rattle.kt_checker.proofs.Answering.{passed_of}
-use Rattle.kt_checker.proofs.Sound.{checkpoints_least, rollbacks_least, aborts, permanent_consistent, present_consistent}
+use Rattle.kt_meaning.proofs.Answering.{passed_of}
+use Rattle.kt_meaning.proofs.Sound.{checkpoints_least, rollbacks_least, aborts}
+use Rattle.kt_checker.proofs.Sound.{permanent_consistent, present_consistent}
 use Rattle.std.proofs.lemmas.Option.{slice_get_within}
 
 -- what is known while rows are read: these were, and the judge has seen them, or one of them breaks a rule

@@ -1,9 +1,9 @@
 -- A chain that was followed, with the processes that it leads through.
 use Rattle.std.specs.Prelude.{◌≡◌, ℕ, ◌+◌, ◌<◌, Some, List, length, map, take, slice_get}
-use Rattle.kt_cuts.specs.Past.{Past}
-use Rattle.kt_chain.specs.declared.certificate.Certificate.{Certificate}
+use Rattle.kt_meaning.specs.Past.{Past}
+use Rattle.kt_spacetime.specs.declared.certificate.Certificate.{Certificate}
 use Rattle.kt_checker.specs.declared.path.Step.{Step}
-use Rattle.kt_checker.specs.Passing.{IsChain}
+use Rattle.kt_meaning.specs.Passing.{IsChain}
 
 -- the message that leads over a step
 abbrev pub message_of : Step → ℕ

@@ -2,16 +2,16 @@
 use Rattle.std.specs.Prelude.{◌≡◌, ℕ, ◌+◌, Bool, true, false, not, Option, Some, None, List, [], map, take, slice_get}
 use Rattle.kt_spacetime.specs.declared.event.Event.{Event}
 use Rattle.kt_spacetime.specs.declared.event.Event.TheVariants.{Decided}
-use Rattle.kt_cuts.specs.Past.{Past, Beginning, past}
-use Rattle.kt_cuts.specs.Chains.{members}
-use Rattle.kt_cuts.specs.Standing.{at_number}
+use Rattle.kt_meaning.specs.Past.{Past, Beginning, past}
+use Rattle.kt_meaning.specs.Chains.{members}
+use Rattle.kt_rules.specs.Standing.{at_number}
 use Rattle.kt_checker.specs.declared.decisions.Instance.{Instance}
 use Rattle.kt_checker.specs.declared.decisions.Decision.{Decision}
-use Rattle.kt_chain.specs.declared.certificate.Certificate.{Certificate}
-use Rattle.kt_checker.specs.declared.verdict.Why.{Why}
-use Rattle.kt_checker.specs.Unwilling.{has_unwilling}
-use Rattle.kt_checker.specs.Passing.{IsSecond, IsShownBefore, ListsReadyOf}
-use Rattle.kt_checker.specs.Order.{IsFirstWhy}
+use Rattle.kt_spacetime.specs.declared.certificate.Certificate.{Certificate}
+use Rattle.kt_spacetime.specs.declared.verdict.Why.{Why}
+use Rattle.kt_meaning.specs.Unwilling.{has_unwilling}
+use Rattle.kt_meaning.specs.Passing.{IsSecond, IsShownBefore, ListsReadyOf}
+use Rattle.kt_meaning.specs.Answers.{IsFirstWhy}
 
 abbrev pub beginning_gathered : Instance → Beginning
 beginning_gathered v = record { initiator = v.initiator; kind = v.kind }

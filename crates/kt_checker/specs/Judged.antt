@@ -1,12 +1,12 @@
 -- What a judge knows after some rows.
 use Rattle.std.specs.Prelude.{◌≡◌, ◌<◌, ◌+◌, ◌^◌, ℕ, true, Option, Some, None, List, length, slice_get}
 use Rattle.kt_spacetime.specs.declared.event.Event.{Event}
-use Rattle.kt_cuts.specs.Throughout.{HasConsistentDecisions}
+use Rattle.kt_meaning.specs.Throughout.{HasConsistentDecisions}
 use Rattle.kt_walk.specs.WalkOf.{WalkOf}
-use Rattle.kt_chain.specs.declared.certificate.Certificate.{Certificate}
+use Rattle.kt_spacetime.specs.declared.certificate.Certificate.{Certificate}
 use Rattle.kt_checker.specs.declared.judge.Judge.{Judge}
 use Rattle.kt_checker.specs.Gathered.{Gathered}
-use Rattle.kt_checker.specs.Passing.{IsSecond}
+use Rattle.kt_meaning.specs.Passing.{IsSecond}
 
 -- the place of the first certificate of an instance among the first of a list, or that there is none
 abbrev pub IsFirstOfInstance : List Certificate → ℕ → ℕ → Option ℕ → Type 0

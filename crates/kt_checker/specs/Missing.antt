@@ -1,8 +1,8 @@
 -- Which instance is found to lack a certificate.
 use Rattle.std.specs.Prelude.{◌≡◌, ◌⊎◌, ◌<◌, ℕ, Bool, true, Some, List, length, slice_get}
-use Rattle.kt_checker.specs.declared.verdict.Verdict.{Verdict}
-use Rattle.kt_checker.specs.declared.verdict.Verdict.TheVariants.{Yes, No}
-use Rattle.kt_checker.specs.declared.verdict.Why.TheVariants.{Missing}
+use Rattle.kt_spacetime.specs.declared.verdict.Verdict.{Verdict}
+use Rattle.kt_spacetime.specs.declared.verdict.Verdict.TheVariants.{Yes, No}
+use Rattle.kt_spacetime.specs.declared.verdict.Why.TheVariants.{Missing}
 use Rattle.kt_checker.specs.declared.decisions.Instance.{Instance}
 use Rattle.kt_checker.specs.declared.decisions.Decision.{Decision}
 

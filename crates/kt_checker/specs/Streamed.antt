@@ -3,11 +3,11 @@ use Rattle.std.specs.Prelude.{◌≡◌, ℕ, Option, List, IfSome}
 use Rattle.kt_spacetime.specs.declared.event.Event.{Event}
 use Rattle.kt_log_text.specs.Reading.{rows_unread}
 use Rattle.kt_log_text.specs.Texts.{IsLogText}
-use Rattle.kt_chain.specs.declared.certificate.Certificate.{Certificate}
-use Rattle.kt_checker.specs.declared.verdict.Verdict.{Verdict}
-use Rattle.kt_checker.specs.declared.verdict.Verdict.TheVariants.{Yes}
-use Rattle.kt_checker.specs.Order.{IsCheckerAnswer}
-use Rattle.kt_checker.specs.Soundness.{IsSound}
+use Rattle.kt_spacetime.specs.declared.certificate.Certificate.{Certificate}
+use Rattle.kt_spacetime.specs.declared.verdict.Verdict.{Verdict}
+use Rattle.kt_spacetime.specs.declared.verdict.Verdict.TheVariants.{Yes}
+use Rattle.kt_meaning.specs.Answers.{IsCheckerAnswer}
+use Rattle.kt_meaning.specs.Soundness.{IsSound}
 
 -- the bytes that a reader tells, where it does, say these rows
 abbrev pub SaysRows : Option (List ℕ) → List Event → Type 0

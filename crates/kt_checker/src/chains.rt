@@ -3,22 +3,22 @@
 ghost use Rattle.std.specs.Prelude.{◌≡◌, ◌↔◌, ℕ, ◌<◌, true, false, Some, List, [], ◌∷◌, map, Contains, slice_get, slice_index, IsTrue, IfSome, IfNone};
 ghost use Rattle.kt_base.specs.Sets.{has};
 ghost use Rattle.kt_spacetime.specs.declared.event.Event.{Event};
-ghost use Rattle.kt_cuts.specs.declared.deeds.Deed.TheVariants as deed;
-ghost use Rattle.kt_cuts.specs.Past.{Past, past};
-ghost use Rattle.kt_cuts.specs.Legal.{IsLegal, is_undecided};
-ghost use Rattle.kt_cuts.specs.Cuts.{IsConsistent};
-ghost use Rattle.kt_cuts.specs.Chains.{LinksRollback};
-ghost use Rattle.kt_cuts.specs.Throughout.{HasConsistentDecisions};
-ghost use Rattle.kt_cuts.specs.Traces.{place_of};
+ghost use Rattle.kt_spacetime.specs.declared.deeds.Deed.TheVariants as deed;
+ghost use Rattle.kt_meaning.specs.Past.{Past, past};
+ghost use Rattle.kt_meaning.specs.Legal.{IsLegal, is_undecided};
+ghost use Rattle.kt_meaning.specs.Cuts.{IsConsistent};
+ghost use Rattle.kt_meaning.specs.Chains.{LinksRollback};
+ghost use Rattle.kt_meaning.specs.Throughout.{HasConsistentDecisions};
+ghost use Rattle.kt_rules.specs.Traces.{place_of};
 ghost use Rattle.kt_walk.specs.WalkOf.{WalkOf};
-ghost use Rattle.kt_chain.specs.declared.certificate.Certificate.{Certificate as Certificates};
+ghost use Rattle.kt_spacetime.specs.declared.certificate.Certificate.{Certificate as Certificates};
 ghost use Rattle.kt_checker.specs.Followed.{IsPath, IsPathOf, message_of};
-ghost use Rattle.kt_checker.specs.Passing.{IsListOf, HasLists, IsChain, ListsReady, decided_cut, earlier_cut};
+ghost use Rattle.kt_meaning.specs.Passing.{IsListOf, HasLists, IsChain, ListsReady, decided_cut, earlier_cut};
 
 use crate::path::Path;
 use kt_base::{Kind, MsgNo, ProcNo, ProcSet};
-use kt_chain::{Certificate, Chain};
-use kt_cuts::Cut;
+use kt_rules::Cut;
+use kt_spacetime::{Certificate, Chain};
 use kt_walk::Walk;
 
 /// Whether each member's list is a chain for it.

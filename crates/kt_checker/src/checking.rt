@@ -1,30 +1,28 @@
 //! The checker's order.
 
 ghost use Rattle.std.specs.Prelude.{◌≡◌, ℕ, ◌≤◌, ◌+◌, ◌++◌, ◌∷◌, ◌↔◌, ◌⊎◌, not, Bool, true, false, Some, None, [], length, take, slice_get, List, IfOk, IsTrue, IfSome};
-ghost use Rattle.kt_cuts.specs.Past.{past, is_checkpoint, is_rollback};
-ghost use Rattle.kt_cuts.specs.Legal.{IsLegal};
-ghost use Rattle.kt_cuts.specs.Cuts.{IsConsistent, permanent_cut, present_cut};
-ghost use Rattle.kt_cuts.specs.Least.{IsLeastCheckpointSet, IsLeastRollbackSet};
+ghost use Rattle.kt_meaning.specs.Past.{past, is_checkpoint, is_rollback};
+ghost use Rattle.kt_meaning.specs.Legal.{IsLegal};
+ghost use Rattle.kt_meaning.specs.Cuts.{IsConsistent, permanent_cut, present_cut};
+ghost use Rattle.kt_meaning.specs.Least.{IsLeastCheckpointSet, IsLeastRollbackSet};
 ghost use Rattle.kt_spacetime.specs.declared.event.Event.{Event};
 ghost use Rattle.kt_spacetime.specs.declared.event.Event.TheVariants.{Decided};
-ghost use Rattle.kt_chain.specs.declared.certificate.Certificate.{Certificate};
-ghost use Rattle.kt_checker.specs.Unwilling.{has_unwilling};
-ghost use Rattle.kt_cuts.specs.Standing.{at_number};
-ghost use Rattle.kt_checker.specs.declared.verdict.Verdict.TheVariants.{Yes, No};
-ghost use Rattle.kt_checker.specs.declared.verdict.Why.{Why};
+ghost use Rattle.kt_spacetime.specs.declared.certificate.Certificate.{Certificate};
+ghost use Rattle.kt_meaning.specs.Unwilling.{has_unwilling};
+ghost use Rattle.kt_rules.specs.Standing.{at_number};
+ghost use Rattle.kt_spacetime.specs.declared.verdict.Verdict.TheVariants.{Yes, No};
+ghost use Rattle.kt_spacetime.specs.declared.verdict.Why.{Why};
 ghost use Rattle.kt_checker.specs.Gathered.{Gathered};
 ghost use Rattle.kt_checker.specs.Judged.{IsFew, JudgeOf};
-ghost use Rattle.kt_checker.specs.Passing.{Passes, IsPassed, IsSecond, AreComplete};
-ghost use Rattle.kt_checker.specs.Order.{IsCheckerAnswer, IsBadLog, IsUnknown, IsRefuted};
+ghost use Rattle.kt_meaning.specs.Passing.{Passes, IsPassed, IsSecond, AreComplete};
+ghost use Rattle.kt_meaning.specs.Answers.{IsCheckerAnswer, IsBadLog, IsUnknown, IsRefuted};
 ghost use Rattle.kt_checker.specs.Missing.{AnswersMissing};
 
 use crate::decisions::{Decision, Instance, Instances};
 use crate::judge::Judge;
-use crate::verdict::{Verdict, Why};
 use kt_base::{InstNo, Memory, RowNo};
-use kt_chain::Certificate;
-use kt_cuts::LegalFault;
-use kt_spacetime::{Event, SpaceTime};
+use kt_rules::LegalFault;
+use kt_spacetime::{Certificate, Event, SpaceTime, Verdict, Why};
 use std::alloc::Global;
 
 /// Judges a log and its certificates: yes, or the first fault in the checker's order.

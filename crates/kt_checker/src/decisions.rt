@@ -5,16 +5,15 @@ ghost use Rattle.std.specs.Option.{option_copied};
 ghost use Rattle.kt_spacetime.specs.declared.event.Event.{Event};
 ghost use Rattle.kt_spacetime.specs.declared.event.Event.TheVariants as event;
 ghost use Rattle.kt_base.specs.declared.words.Cause.{Cause};
-ghost use Rattle.kt_cuts.specs.Legal.{IsLegal};
+ghost use Rattle.kt_meaning.specs.Legal.{IsLegal};
 ghost use Rattle.kt_checker.specs.declared.decisions.Decision.{Decision};
 ghost use Rattle.kt_checker.specs.Gathered.{Gathered, IsFoundFirst};
-ghost use Rattle.kt_chain.specs.declared.certificate.Certificate.{Certificate};
+ghost use Rattle.kt_spacetime.specs.declared.certificate.Certificate.{Certificate};
 ghost use Rattle.kt_checker.specs.Missing.{AreSeenBefore, IsUnseen};
-ghost use Rattle.kt_cuts.specs.Standing.{at_number};
+ghost use Rattle.kt_rules.specs.Standing.{at_number};
 
-use crate::verdict::Why;
 use kt_base::{InstNo, Kind, Memory, ProcNo, RowNo};
-use kt_spacetime::Event;
+use kt_spacetime::{Event, Why};
 use std::alloc::Global;
 
 /// How an instance was decided: by which row, and whether committed.

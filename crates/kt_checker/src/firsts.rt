@@ -1,11 +1,11 @@
 //! Where the first certificate of each instance stands.
 
 ghost use Rattle.std.specs.Prelude.{◌≡◌, ◌+◌, Some, List, IfOk, length, slice_get};
-ghost use Rattle.kt_chain.specs.declared.certificate.Certificate.{Certificate};
+ghost use Rattle.kt_spacetime.specs.declared.certificate.Certificate.{Certificate};
 ghost use Rattle.kt_checker.specs.Judged.{AreFirsts, IsFirstOfInstance};
 
 use kt_base::{InstNo, Memory};
-use kt_chain::Certificate;
+use kt_spacetime::Certificate;
 use std::alloc::Global;
 
 /// How many instances there are at most.

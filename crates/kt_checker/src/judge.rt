@@ -3,26 +3,24 @@
 ghost use Rattle.std.specs.Prelude.{◌≡◌, ◌<◌, ◌+◌, ◌^◌, ◌↔◌, ◌++◌, ◌∷◌, [], ℕ, Bool, true, Some, Err, List, length, map, slice_get, IfOk, IsTrue, OnOk};
 ghost use Rattle.kt_spacetime.specs.declared.event.Event.{Event};
 ghost use Rattle.kt_spacetime.specs.declared.event.Event.TheVariants as event;
-ghost use Rattle.kt_cuts.specs.declared.rules.Rule.{Rule};
-ghost use Rattle.kt_cuts.specs.declared.legality.LegalFault.TheVariants as fault;
+ghost use Rattle.kt_spacetime.specs.declared.rules.Rule.{Rule};
+ghost use Rattle.kt_rules.specs.declared.legality.LegalFault.TheVariants as fault;
 ghost use Rattle.kt_walk.specs.WalkOf.{WalkOf};
-ghost use Rattle.kt_cuts.specs.Past.{past, kind_of};
-ghost use Rattle.kt_cuts.specs.Throughout.{HasConsistentDecisions};
-ghost use Rattle.kt_cuts.specs.Legal.{IsLegal, first_broken, is_undecided};
+ghost use Rattle.kt_meaning.specs.Past.{past, kind_of};
+ghost use Rattle.kt_meaning.specs.Throughout.{HasConsistentDecisions};
+ghost use Rattle.kt_meaning.specs.Legal.{IsLegal, first_broken, is_undecided};
 ghost use Rattle.kt_checker.specs.Gathered.{IsFinding, IsFoundFirst};
 ghost use Rattle.kt_checker.specs.Judged.{AreFirsts, IsFew, IsFirstCertificate, JudgeOf};
-ghost use Rattle.kt_checker.specs.Passing.{IsSecond};
-ghost use Rattle.kt_chain.specs.declared.certificate.Certificate.{Certificate as Certificates};
+ghost use Rattle.kt_meaning.specs.Passing.{IsSecond};
+ghost use Rattle.kt_spacetime.specs.declared.certificate.Certificate.{Certificate as Certificates};
 ghost use Rattle.std.specs.Option.{option_copied};
 
 use crate::chains::{has_chains, leaves_consistent};
 use crate::decisions::{Instance, Instances};
 use crate::firsts::Firsts;
-use crate::verdict::Why;
 use kt_base::{InstNo, Memory, RowNo};
-use kt_chain::Certificate;
-use kt_cuts::LegalFault;
-use kt_spacetime::Event;
+use kt_rules::LegalFault;
+use kt_spacetime::{Certificate, Event, Why};
 use kt_walk::Walk;
 use std::alloc::Global;
 

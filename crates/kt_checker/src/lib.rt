@@ -8,7 +8,7 @@
 //!
 //! **The cut of a certificate** (`leaves_consistent`). While each committed decision so far was found to leave a
 //! consistent cut (`is_consistent` of a judge), the permanent cut and the present one are consistent, by the law
-//! `consistent_cuts` of kt_cuts. The cut of a checkpoint differs from the permanent one, and that of a rollback from
+//! `consistent_cuts` of kt_rules. The cut of a checkpoint differs from the permanent one, and that of a rollback from
 //! the present one, in some members alone (`changed_in`); so an orphan has one of these as receiver or as sender, and
 //! the walk looks at their pairs alone. Once a decision was committed whose first certificate lacks, has another kind
 //! or was found wrong, its cut is not known to be consistent: from then on all pairs that have messages are looked at,
@@ -25,7 +25,7 @@
 //! (`specs/Gathered`) what instances were found to have. Exact: row by row `proofs/Judging`, `Gathering`, `FirstPlaces`
 //! and `RowByRow`; the cut of an undecided instance `Inside`; chains `Chaining`, `Links`, `Following`; what stays of an
 //! instance after its decided row `Deciding`; the list of certificates `Marking`, `Answering`. Sound: `proofs/Sound`
-//! goes from `IsPassed` to leastness, by the laws of kt_cuts.
+//! goes from `IsPassed` to leastness, by the laws of kt_rules.
 //!
 //! **What to change where:** the order `checking.rt`, as a relation `specs/Order`; chains and cuts `chains.rt`,
 //! `path.rt`; one row `judge.rt`; a stored log `streaming.rt`; what it needs of instances `decisions.rt`,
@@ -37,12 +37,8 @@ mod checking;
 mod decisions;
 mod firsts;
 mod judge;
-mod laws;
 mod path;
 mod streaming;
-mod verdict;
 
 pub use checking::check;
-pub use laws::one_answer;
 pub use streaming::{check_rows, check_stream};
-pub use verdict::{Verdict, Why};

@@ -4,16 +4,15 @@ ghost use Rattle.std.specs.Prelude.{◌≡◌, ◌↔◌, [], ℕ, List, Option,
 ghost use Rattle.kt_spacetime.specs.declared.event.Event.{Event};
 ghost use Rattle.kt_log_text.specs.Reading.{IsUnread, rows_unread};
 ghost use Rattle.kt_log_text.specs.Texts.{IsLogText, IsFirstLogFault};
-ghost use Rattle.kt_checker.specs.declared.verdict.Verdict.TheVariants.{Yes};
+ghost use Rattle.kt_spacetime.specs.declared.verdict.Verdict.TheVariants.{Yes};
 ghost use Rattle.kt_checker.specs.Judged.{JudgeOf};
-ghost use Rattle.kt_checker.specs.Passing.{IsPassed};
+ghost use Rattle.kt_meaning.specs.Passing.{IsPassed};
 ghost use Rattle.kt_checker.specs.Streamed.{IsAnswerOf};
 
 use crate::checking::{feed_row, verdict};
 use crate::judge::Judge;
-use crate::verdict::Verdict;
-use kt_chain::Certificate;
 use kt_log_text::{LogFault, RowReader};
+use kt_spacetime::{Certificate, Verdict};
 use std::alloc::Global;
 use std::io::Read;
 

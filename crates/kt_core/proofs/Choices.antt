@@ -7,8 +7,8 @@ use Rattle.std.proofs.lemmas.List.Elements.{filter-append, filter_agree, filter_
 use Rattle.kt_base.specs.Sets.{has}
 use Rattle.kt_plan.specs.declared.steps.Step.{Step}
 use Rattle.kt_plan.specs.declared.steps.Step.TheVariants.{Do, Take}
-use Rattle.kt_plans.specs.Progress.{Progress}
-use Rattle.kt_plans.specs.Steps.{enabled}
+use Rattle.kt_promises.specs.Progress.{Progress}
+use Rattle.kt_promises.specs.Steps.{enabled}
 use Rattle.kt_system.specs.Reads.{can_take}
 use Rattle.kt_core.specs.Choices.{takes_of, steps_of, steps_of_first, all_steps, choices, enabled_steps}
 use Rattle.kt_core.specs.Shown.{Mirrors}

@@ -8,7 +8,7 @@ use Rattle.kt_base.specs.Sets.{has}
 use Rattle.kt_fifo.specs.Counts.{count_first, count_pairs}
 use Rattle.kt_plan.specs.declared.steps.Step.{Step}
 use Rattle.kt_plan.specs.declared.steps.Step.TheVariants.{Do, Take}
-use Rattle.kt_plans.specs.Steps.{process_of_step}
+use Rattle.kt_promises.specs.Steps.{process_of_step}
 use Rattle.kt_system.specs.Counts.{takes_in, IsTakeAt}
 use Rattle.kt_system.specs.Reads.{can_take}
 use Rattle.kt_system.specs.Systems.{state_of}

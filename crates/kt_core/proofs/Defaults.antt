@@ -12,11 +12,11 @@ use Rattle.kt_protocol.proofs.StepFacts.{none_is}
 use Rattle.kt_process.specs.ProcessStates.{ProcessState}
 use Rattle.kt_system.specs.Systems.{state_of}
 use Rattle.kt_system.specs.Reads.{can_take, IsNextTake, HasNoTake}
-use Rattle.kt_plans.specs.Plans.{commands_of}
-use Rattle.kt_plans.specs.Progress as run_world
-use Rattle.kt_plans.specs.Steps.{enabled, is_at_rest}
-use Rattle.kt_plans.specs.Defaults.{default_step}
-use Rattle.kt_plans.specs.Order.{comes_before, next_place}
+use Rattle.kt_meaning.specs.Follows.{commands_of}
+use Rattle.kt_promises.specs.Progress as run_world
+use Rattle.kt_promises.specs.Steps.{enabled, is_at_rest}
+use Rattle.kt_promises.specs.Defaults.{default_step}
+use Rattle.kt_promises.specs.Order.{comes_before, next_place}
 use Rattle.kt_core.specs.PlanLaws.{PlanLaws}
 use Rattle.kt_core.specs.Agendas.{Agenda, agenda_place, agenda_command, open_command}
 use Rattle.kt_core.specs.Worlds.{World, process_may_do, can_do, can_make, IsWorldAtRest, IsNextDo, IsDefaultStep}

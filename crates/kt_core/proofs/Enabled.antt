@@ -10,8 +10,8 @@ use Rattle.kt_plan.specs.declared.steps.Step.TheVariants.{Do, Take}
 use Rattle.kt_process.specs.ProcessStates.{inst_of}
 use Rattle.kt_system.specs.Systems.{state_of}
 use Rattle.kt_system.specs.Reads.{can_take}
-use Rattle.kt_plans.specs.Steps as run_steps
-use Rattle.kt_plans.specs.Progress.{Progress}
+use Rattle.kt_promises.specs.Steps as run_steps
+use Rattle.kt_promises.specs.Progress.{Progress}
 use Rattle.kt_core.specs.PlanLaws.{PlanLaws}
 use Rattle.kt_core.specs.Agendas.{agenda_command, if_open, open_command}
 use Rattle.kt_core.specs.Worlds.{World, is_send, process_may_do, can_do, can_make, step_refusal, is_full, lacks_label}

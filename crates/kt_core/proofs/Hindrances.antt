@@ -6,10 +6,10 @@ use Rattle.kt_plan.specs.Limits.{IsCommandOf}
 use Rattle.kt_plan.specs.declared.commands.Command.{Command}
 use Rattle.kt_plan.specs.declared.steps.Step.{Step}
 use Rattle.kt_plan.specs.declared.steps.Step.TheVariants.{Do, Take}
-use Rattle.kt_plans.specs.Hindrances.{hindrance, hindrance_of_command}
-use Rattle.kt_plans.specs.declared.hindrances.Hindrance.TheVariants.{NoCommand, PhaseNotOpen, SendInInstance, NoParcel}
-use Rattle.kt_plans.specs.Progress.{Progress, next_command}
-use Rattle.kt_plans.specs.Steps.{may_do, may_do_job, enabled}
+use Rattle.kt_promises.specs.Hindrances.{hindrance, hindrance_of_command}
+use Rattle.kt_promises.specs.declared.hindrances.Hindrance.TheVariants.{NoCommand, PhaseNotOpen, SendInInstance, NoParcel}
+use Rattle.kt_promises.specs.Progress.{Progress, next_command}
+use Rattle.kt_promises.specs.Steps.{may_do, may_do_job, enabled}
 use Rattle.kt_core.specs.PlanLaws.{PlanLaws}
 use Rattle.kt_core.specs.Agendas.{agenda_command, if_open, open_command}
 use Rattle.kt_core.specs.Worlds.{World, can_make}

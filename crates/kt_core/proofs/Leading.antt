@@ -6,7 +6,7 @@ use Rattle.std.proofs.lemmas.Bool.Decides.{nat_tests}
 use Rattle.std.proofs.lemmas.Option.{slice_get_within}
 use Rattle.kt_plan.specs.declared.steps.Step.{Step}
 use Rattle.kt_plan.specs.declared.steps.Step.TheVariants.{Do, Take}
-use Rattle.kt_cuts.specs.Past.{at_one}
+use Rattle.kt_meaning.specs.Past.{at_one}
 use Rattle.kt_fifo.specs.declared.parcels.Parcel.{Parcel}
 use Rattle.kt_tables.specs.Calls.{Speaks}
 use Rattle.kt_plan.specs.Limits.{Planned, IsPlan}
@@ -15,25 +15,24 @@ use Rattle.kt_plan.specs.declared.commands.Job.{Job}
 use Rattle.kt_plan.specs.declared.commands.Job.TheVariants as job
 use Rattle.kt_plan.specs.declared.steps.Give.{Give}
 use Rattle.kt_protocol.specs.States as machine
-use Rattle.kt_seen.specs.Seen.{Seen}
-use Rattle.kt_seen.specs.Transition.{transition, opening_seen}
+use Rattle.kt_machine.specs.Seen.{Seen}
+use Rattle.kt_machine.specs.Transition.{transition, opening_seen}
 use Rattle.kt_process.specs.ProcessStates.{ProcessState, part_of_side, IsNumbered}
 use Rattle.kt_system.specs.Systems.{Whole, state_of, no_process, IsSameSystem}
 use Rattle.kt_system.specs.declared.system.Tally.{Tally}
-use Rattle.kt_system.specs.Reads.{tally_of}
-use Rattle.kt_system.specs.Reads.{no_tally as none_counted}
+use Rattle.kt_system.specs.Reads.{tally_of, no_tally as none_counted}
 use Rattle.kt_system.specs.Tallies.{TalliesPut, taken_off}
 use Rattle.kt_system.specs.Shown.{ShowsState}
 use Rattle.kt_system.proofs.Showing.{shows_same}
-use Rattle.kt_values.specs.Values.{Act}
-use Rattle.kt_values.specs.Acts.{stepper}
-use Rattle.kt_values.specs.SeenActs.{seen_acts}
-use Rattle.kt_plans.specs.Steps.{protocol_step, can_take_from, enabled, progress_after}
-use Rattle.kt_plans.specs.Progress as run_world
-use Rattle.kt_plans.specs.Runs.{RunReaches, IsSameButPhase, steps_of_command}
-use Rattle.kt_plans.specs.StepActs.{acts_of_step}
-use Rattle.kt_plans.specs.Tallies.{Tallies, no_tallies, tallies_after, RunPuts}
-use Rattle.kt_plans.specs.Tallies as run_tallies
+use Rattle.kt_machine.specs.Values.{Act}
+use Rattle.kt_machine.specs.Acts.{stepper}
+use Rattle.kt_machine.specs.SeenActs.{seen_acts}
+use Rattle.kt_promises.specs.Steps.{protocol_step, can_take_from, enabled, progress_after}
+use Rattle.kt_promises.specs.Progress as run_world
+use Rattle.kt_promises.specs.Runs.{RunReaches, IsSameButPhase, steps_of_command}
+use Rattle.kt_promises.specs.StepActs.{acts_of_step}
+use Rattle.kt_promises.specs.Tallies.{Tallies, no_tallies, tallies_after, RunPuts}
+use Rattle.kt_promises.specs.Tallies as run_tallies
 use Rattle.kt_core.specs.Agendas.{Agenda, agenda_place, agenda_command, if_open, open_command, IsNextOf, IsLeastPhase}
 use Rattle.kt_core.specs.PlanLaws.{PlanLaws}
 use Rattle.kt_core.specs.Worlds.{SettlesIn}

@@ -20,18 +20,18 @@ use Rattle.kt_plan.specs.declared.steps.Step.TheVariants.{Do, Take}
 use Rattle.kt_plan.specs.declared.steps.Look.TheVariants.{Idle, NeedsSave, NeedsBody, Plain}
 use Rattle.kt_process.specs.ProcessStates.{ProcessState, inst_of, is_ready, part_of_side, IsNumbered}
 use Rattle.kt_process.specs.Shown.{IsSeenAs}
-use Rattle.kt_seen.specs.Seen.{Seen, SeenProcess, SeenLists}
-use Rattle.kt_seen.specs.CallTests.{must_take}
+use Rattle.kt_machine.specs.Seen.{Seen, SeenProcess, SeenLists}
+use Rattle.kt_machine.specs.CallTests.{must_take}
 use Rattle.kt_system.specs.Systems.{state_of}
 use Rattle.kt_system.specs.Reads.{next_parcel, saves_by, would_save}
 use Rattle.kt_system.proofs.Replying.{ready_seen}
-use Rattle.kt_plans.specs.Looks as run_looks
+use Rattle.kt_promises.specs.Looks as run_looks
 use Rattle.kt_core.specs.declared.faults.StepFault.{StepFault}
 use Rattle.kt_core.specs.declared.ready.Ready.{Ready}
-use Rattle.kt_plans.specs.Progress.{Progress}
-use Rattle.kt_plans.specs.Steps.{enabled}
+use Rattle.kt_promises.specs.Progress.{Progress}
+use Rattle.kt_promises.specs.Steps.{enabled}
 use Rattle.kt_fifo.specs.Queues.{has_parcel}
-use Rattle.kt_plans.specs.Messages.{AreMessagesTo}
+use Rattle.kt_promises.specs.Messages.{AreMessagesTo}
 use Rattle.kt_core.specs.PlanLaws.{PlanLaws}
 use Rattle.kt_core.specs.Agendas.{open_command}
 use Rattle.kt_core.specs.Worlds.{World, process_may_do, can_do, can_make, needs_of_job, needs_of_step, needs}

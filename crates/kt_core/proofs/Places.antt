@@ -3,10 +3,10 @@ use Rattle.std.specs.Prelude.{◌==◌, if◌then◌else◌, slice_get}
 use Rattle.std.proofs.Common.{◌≡◌, ◌≢◌, ◌<◌, ◌≤◌, ◌+◌, ℕ, zero, suc, Bool, true, false, Some, List, [], ◌∷◌, length, refl, sym, arith, ap, subst, ◌∙◌, inl, inr}
 use Rattle.std.proofs.lemmas.Bool.{cases_lt, cases_eq}
 use Rattle.std.proofs.lemmas.Bool.Decides.{nat_tests}
-use Rattle.kt_cuts.specs.Past.{at_one}
+use Rattle.kt_meaning.specs.Past.{at_one}
 use Rattle.kt_plan.specs.declared.commands.Command.{Command}
-use Rattle.kt_plans.specs.Order.{place_of_command, next_place}
-use Rattle.kt_plans.specs.Progress as run_world
+use Rattle.kt_promises.specs.Order.{place_of_command, next_place}
+use Rattle.kt_promises.specs.Progress as run_world
 use Rattle.kt_core.specs.PlanLaws.{PlanLaws}
 use Rattle.kt_core.specs.Agendas.{Agenda, agenda_place, agenda_command, IsNextOf, by_at}
 

@@ -11,14 +11,14 @@ use Rattle.kt_process.specs.ProcessStates.{ProcessState, part_of_side, inst_of, 
 use Rattle.kt_process.specs.Shown.{IsSeenAs, inst_shown}
 use Rattle.kt_process.specs.declared.side.Side.{Side}
 use Rattle.kt_process.specs.declared.side.Side.TheVariants as side
-use Rattle.kt_seen.specs.Seen.{Seen, SeenProcess, SeenLists}
-use Rattle.kt_seen.specs.Transition.{opening_seen, is_seen_ready}
+use Rattle.kt_machine.specs.Seen.{Seen, SeenProcess, SeenLists}
+use Rattle.kt_machine.specs.Transition.{opening_seen, is_seen_ready}
 use Rattle.kt_system.specs.Systems.{Whole, state_of}
 use Rattle.kt_system.specs.Reads.{IsQuietSystem, next_parcel, can_take}
 use Rattle.kt_system.specs.Shown.{ShowsState}
 use Rattle.kt_system.proofs.Replying.{ready_seen}
-use Rattle.kt_plans.specs.Progress.{is_quiet}
-use Rattle.kt_plans.specs.Steps.{can_take_from}
+use Rattle.kt_promises.specs.Progress.{is_quiet}
+use Rattle.kt_promises.specs.Steps.{can_take_from}
 use Rattle.kt_fifo.specs.Queues.{has_parcel}
 
 -- all instances that processes are in have numbers from 1 on

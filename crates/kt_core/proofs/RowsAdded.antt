@@ -3,9 +3,9 @@ use Rattle.std.proofs.Common.{◌≡◌, ℕ, true, None, List, drop, length, sy
 use Rattle.kt_plan.specs.declared.steps.Step.{Step}
 use Rattle.kt_plan.specs.declared.steps.Give.{Give}
 use Rattle.kt_spacetime.specs.declared.event.Event.{Event}
-use Rattle.kt_plans.specs.Rows.{AreRowsOfStep}
-use Rattle.kt_plans.specs.Steps.{enabled, progress_after}
-use Rattle.kt_plans.specs.Progress.{Progress}
+use Rattle.kt_promises.specs.Rows.{AreRowsOfStep}
+use Rattle.kt_promises.specs.Steps.{enabled, progress_after}
+use Rattle.kt_promises.specs.Progress.{Progress}
 use Rattle.kt_core.specs.PlanLaws.{PlanLaws}
 use Rattle.kt_core.specs.Shown.{Mirrors}
 use Rattle.kt_core.specs.Worlds.{World, step_refusal}

@@ -12,8 +12,8 @@ use Rattle.kt_fifo.specs.Channels.{channel}
 use Rattle.kt_fifo.specs.declared.parcels.Parcel.{Parcel}
 use Rattle.kt_fifo.specs.declared.parcels.Parcel.TheVariants.{App, Ask, Reply, Decide}
 use Rattle.kt_plan.specs.Limits.{Planned, IsPlan}
-use Rattle.kt_seen.specs.Seen.{Seen, SeenLists}
-use Rattle.kt_seen.specs.Transition.{is_seen_ready}
+use Rattle.kt_machine.specs.Seen.{Seen, SeenLists}
+use Rattle.kt_machine.specs.Transition.{is_seen_ready}
 use Rattle.kt_process.specs.ProcessStates.{is_ready}
 use Rattle.kt_system.specs.declared.system.Tally.{Tally}
 use Rattle.kt_system.specs.Systems.{Whole, state_of}
@@ -21,9 +21,9 @@ use Rattle.kt_system.specs.Reads.{tally_of, no_tally}
 use Rattle.kt_system.specs.Shown.{ShowsState}
 use Rattle.kt_system.specs.Tallies as system
 use Rattle.kt_system.proofs.Replying.{ready_seen}
-use Rattle.kt_plans.specs.Work.{begins_instance, count_begins}
-use Rattle.kt_plans.specs.Tallies.{Tallies, total_below, IsRaised, RunPuts, count_in_channels, count_in_front, count_where, is_ask_of, is_decision_of, is_reply_of, taken_off}
-use Rattle.kt_plans.specs.Progress.{Progress}
+use Rattle.kt_promises.specs.Work.{begins_instance, count_begins}
+use Rattle.kt_promises.specs.Tallies.{Tallies, total_below, IsRaised, RunPuts, count_in_channels, count_in_front, count_where, is_ask_of, is_decision_of, is_reply_of, taken_off}
+use Rattle.kt_promises.specs.Progress.{Progress}
 use Rattle.kt_fifo.specs.Queues.{has_parcel}
 use Rattle.kt_core.specs.PlanLaws.{PlanLaws}
 use Rattle.kt_core.specs.Shown.{tally_shown}

@@ -6,12 +6,12 @@ use Rattle.kt_plan.specs.declared.steps.Give.{Give}
 use Rattle.kt_plan.specs.declared.steps.Look.{Look}
 use Rattle.kt_plan.specs.declared.steps.Look.TheVariants.{Idle, NeedsSave, NeedsBody}
 use Rattle.kt_plan.specs.declared.steps.Step.{Step}
-use Rattle.kt_plans.specs.Looks.{look}
-use Rattle.kt_plans.specs.Progress.{Progress}
-use Rattle.kt_plans.specs.Rows.{has_sent_row, has_took_row, is_offer_step}
-use Rattle.kt_plans.specs.Runs.{AreOfOthers, Move, after_moves}
-use Rattle.kt_plans.specs.StepActs.{rows_added}
-use Rattle.kt_plans.specs.Steps.{enabled, process_of_step, progress_after}
+use Rattle.kt_promises.specs.Looks.{look}
+use Rattle.kt_promises.specs.Progress.{Progress}
+use Rattle.kt_promises.specs.Rows.{has_sent_row, has_took_row, is_offer_step}
+use Rattle.kt_promises.specs.Runs.{AreOfOthers, Move, after_moves}
+use Rattle.kt_promises.specs.StepActs.{rows_added}
+use Rattle.kt_promises.specs.Steps.{enabled, process_of_step, progress_after}
 
 -- what a look at a step tells of a run that has come to v
 pub record TellsOfStep (plan : Planned) (v : Progress) (step : Step) (found : Look) : Type 0 where

@@ -2,19 +2,19 @@
 use Rattle.std.specs.Prelude.{◌≡◌, ◌≢◌, ◌≤◌, ℕ, ℤ, true, false, Some, List, length, slice_get}
 use Rattle.kt_base.specs.declared.words.Cause.{Cause}
 use Rattle.kt_spacetime.specs.declared.event.Event.TheVariants.{Closed, Unwilling}
-use Rattle.kt_cuts.specs.Past.{past, is_rollback, is_committed}
+use Rattle.kt_meaning.specs.Past.{past, is_rollback, is_committed}
 use Rattle.kt_plan.specs.declared.steps.Step.{Step}
 use Rattle.kt_plan.specs.declared.steps.Give.{Give}
 use Rattle.kt_plan.specs.declared.steps.Act.{Act}
 use Rattle.kt_system.specs.ShownActs.{acts_shown}
 use Rattle.kt_system.specs.Systems.{LogGrows}
-use Rattle.kt_values.specs.Done.{done}
-use Rattle.kt_values.specs.Values.{Rules, due, does_all, can_all, closing}
-use Rattle.kt_plans.specs.Progress.{Progress}
-use Rattle.kt_plans.specs.Steps.{enabled, progress_after, process_of_step}
-use Rattle.kt_plans.specs.StepActs.{acts_of_step}
-use Rattle.kt_plans.specs.Tallies.{Tallies, tallies_after, IsRaised}
-use Rattle.kt_plans.specs.Unwilling.{IsUnwillingStep}
+use Rattle.kt_machine.specs.Done.{done}
+use Rattle.kt_machine.specs.Values.{Rules, due, does_all, can_all, closing}
+use Rattle.kt_promises.specs.Progress.{Progress}
+use Rattle.kt_promises.specs.Steps.{enabled, progress_after, process_of_step}
+use Rattle.kt_promises.specs.StepActs.{acts_of_step}
+use Rattle.kt_promises.specs.Tallies.{Tallies, tallies_after, IsRaised}
+use Rattle.kt_promises.specs.Unwilling.{IsUnwillingStep}
 use Rattle.kt_core.specs.Shown.{Mirrors, MirrorsPut}
 use Rattle.kt_core.specs.Worlds.{World, HasDone, Settles}
 

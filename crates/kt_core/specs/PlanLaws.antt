@@ -1,35 +1,35 @@
--- The laws of runs of kt_plans that proofs rest on.
+-- The laws of runs of kt_promises that proofs rest on.
 use Rattle.std.specs.Prelude.{◌≡◌, ◌≢◌, ◌⊎◌, ◌↔◌, ◌<◌, ◌≤◌, ◌+◌, ◌*◌, ◌-◌, ℕ, ℤ, true, false, Some, None, List, [], ◌∷◌, length, slice_get}
 use Rattle.kt_base.specs.declared.words.Cause.{Cause}
-use Rattle.kt_cuts.specs.Past.{past, is_rollback, is_committed, at_one}
+use Rattle.kt_meaning.specs.Past.{past, is_rollback, is_committed, at_one}
 use Rattle.kt_plan.specs.Limits.{Planned, IsPlan}
 use Rattle.kt_plan.specs.declared.commands.Command.{Command}
 use Rattle.kt_plan.specs.declared.steps.Give.{Give}
 use Rattle.kt_plan.specs.declared.steps.Step.{Step}
 use Rattle.kt_plan.specs.declared.steps.Step.TheVariants.{Do, Take}
-use Rattle.kt_plans.specs.Defaults.{default_step}
-use Rattle.kt_plans.specs.Hindrances.{hindrance}
-use Rattle.kt_plans.specs.declared.hindrances.Hindrance.TheVariants.{NoCommand}
-use Rattle.kt_plans.specs.Messages.{AreMessagesTo}
-use Rattle.kt_plans.specs.Order.{comes_before, next_place}
-use Rattle.kt_plans.specs.Progress.{Progress, is_quiet, next_command, progress_at_start}
-use Rattle.kt_plans.specs.Rows.{AreRowsOfStep}
-use Rattle.kt_plans.specs.Runs.{IsSameButPhase, RunReaches, protocol_steps}
-use Rattle.kt_plans.specs.StepActs.{acts_of_step, rows_added}
-use Rattle.kt_plans.specs.Steps.{enabled, is_at_rest, process_of_step, progress_after, protocol_step}
-use Rattle.kt_plans.specs.Tallies.{Tallies, IsRaised, RunPuts, tallies_after}
-use Rattle.kt_plans.specs.Unwilling.{IsUnwillingStep}
-use Rattle.kt_plans.specs.Work.{count_begins}
+use Rattle.kt_promises.specs.Defaults.{default_step}
+use Rattle.kt_promises.specs.Hindrances.{hindrance}
+use Rattle.kt_promises.specs.declared.hindrances.Hindrance.TheVariants.{NoCommand}
+use Rattle.kt_promises.specs.Messages.{AreMessagesTo}
+use Rattle.kt_promises.specs.Order.{comes_before, next_place}
+use Rattle.kt_promises.specs.Progress.{Progress, is_quiet, next_command, progress_at_start}
+use Rattle.kt_promises.specs.Rows.{AreRowsOfStep}
+use Rattle.kt_promises.specs.Runs.{IsSameButPhase, RunReaches, protocol_steps}
+use Rattle.kt_promises.specs.StepActs.{acts_of_step, rows_added}
+use Rattle.kt_promises.specs.Steps.{enabled, is_at_rest, process_of_step, progress_after, protocol_step}
+use Rattle.kt_promises.specs.Tallies.{Tallies, IsRaised, RunPuts, tallies_after}
+use Rattle.kt_promises.specs.Unwilling.{IsUnwillingStep}
+use Rattle.kt_promises.specs.Work.{count_begins}
 use Rattle.kt_protocol.specs.States as machine
-use Rattle.kt_seen.specs.Transition.{opening_seen, transition}
+use Rattle.kt_machine.specs.Transition.{opening_seen, transition}
 use Rattle.kt_spacetime.specs.declared.event.Event.TheVariants.{Closed, Unwilling}
 use Rattle.kt_tables.specs.Calls.{Speaks}
-use Rattle.kt_values.specs.Acts.{stepper}
-use Rattle.kt_values.specs.Done.{done}
-use Rattle.kt_values.specs.SeenActs.{seen_acts}
-use Rattle.kt_values.specs.Values.{Rules, due, can_all, closing, does_all}
+use Rattle.kt_machine.specs.Acts.{stepper}
+use Rattle.kt_machine.specs.Done.{done}
+use Rattle.kt_machine.specs.SeenActs.{seen_acts}
+use Rattle.kt_machine.specs.Values.{Rules, due, can_all, closing, does_all}
 
--- what kt_plans says of every run, by its laws
+-- what kt_promises says of every run, by its laws
 pub record PlanLaws : Type 0 where
   -- progress_of_runs
   pub next : (plan : Planned) (first : ℕ) (w : Progress) (x : Step) (give : Give) → IsPlan plan → RunReaches plan first w

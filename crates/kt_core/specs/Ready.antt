@@ -1,6 +1,6 @@
 -- What is handed on of a step that was looked at.
 use Rattle.std.specs.Prelude.{◌≡◌, None}
-use Rattle.kt_plans.specs.Steps.{process_of_step}
+use Rattle.kt_promises.specs.Steps.{process_of_step}
 use Rattle.kt_core.specs.declared.ready.Ready.{Ready}
 use Rattle.kt_core.specs.Agendas.{agenda_place}
 use Rattle.kt_core.specs.Worlds.{World, step_refusal, needs}

@@ -7,10 +7,10 @@ use Rattle.kt_system.specs.Systems.{Whole, state_of}
 use Rattle.kt_system.specs.declared.system.Tally.{Tally}
 use Rattle.kt_system.specs.Reads.{tally_of}
 use Rattle.kt_system.specs.Shown.{ShowsState}
-use Rattle.kt_plans.specs.Progress.{Progress}
-use Rattle.kt_plans.specs.Tallies.{Tallies, RunPuts}
-use Rattle.kt_plans.specs.Order.{next_place}
-use Rattle.kt_plans.specs.Runs.{RunReaches}
+use Rattle.kt_promises.specs.Progress.{Progress}
+use Rattle.kt_promises.specs.Tallies.{Tallies, RunPuts}
+use Rattle.kt_promises.specs.Order.{next_place}
+use Rattle.kt_promises.specs.Runs.{RunReaches}
 use Rattle.kt_core.specs.Agendas.{Agenda, agenda_place, agenda_command}
 
 -- what an instance has put into channels, by what its run has

@@ -3,10 +3,10 @@
 ghost use Rattle.std.specs.Prelude.{◌≡◌, ℕ, true};
 ghost use Rattle.kt_plan.specs.Limits.{IsPlan, Planned};
 ghost use Rattle.kt_plan.specs.declared.steps.Step.{Step};
-ghost use Rattle.kt_plans.specs.Looks.{look};
-ghost use Rattle.kt_plans.specs.Progress.{Progress};
-ghost use Rattle.kt_plans.specs.Runs.{RunReaches};
-ghost use Rattle.kt_plans.specs.Steps.{enabled, is_at_rest};
+ghost use Rattle.kt_promises.specs.Looks.{look};
+ghost use Rattle.kt_promises.specs.Progress.{Progress};
+ghost use Rattle.kt_promises.specs.Runs.{RunReaches};
+ghost use Rattle.kt_promises.specs.Steps.{enabled, is_at_rest};
 ghost use Rattle.kt_core.specs.Looked.{TellsOfStep};
 ghost use Rattle.kt_core.specs.PlanLaws.{PlanLaws};
 ghost use Rattle.kt_core.specs.Shown.{Mirrors};
@@ -29,21 +29,21 @@ pub fn runs_of_worlds()
 pub(crate) fn laws_of_runs()
     ensures { PlanLaws }
 {
-    kt_plans::progress_of_runs();
-    kt_plans::progress_after_steps();
-    kt_plans::places_of_commands();
-    kt_plans::phases_of_runs();
-    kt_plans::processes_of_runs();
-    kt_plans::protocol_of_runs();
-    kt_plans::messages_of_runs();
-    kt_plans::rows_of_runs();
-    kt_plans::acts_of_runs();
-    kt_plans::steps_of_runs();
-    kt_plans::never_stuck();
-    kt_plans::hindrances_of_steps();
-    kt_plans::tallies_of_runs();
+    kt_promises::progress_of_runs();
+    kt_promises::progress_after_steps();
+    kt_promises::places_of_commands();
+    kt_promises::phases_of_runs();
+    kt_promises::processes_of_runs();
+    kt_promises::protocol_of_runs();
+    kt_promises::messages_of_runs();
+    kt_promises::rows_of_runs();
+    kt_promises::acts_of_runs();
+    kt_promises::steps_of_runs();
+    kt_promises::never_stuck();
+    kt_promises::hindrances_of_steps();
+    kt_promises::tallies_of_runs();
     // what an object holds is a list of numbers, and so is an array to a clause
-    kt_plans::values_of_runs::<[i64; 1]>();
+    kt_promises::values_of_runs::<[i64; 1]>();
 }
 
 /// What a look tells of runs: what its step saves and sends, what of a `Give` counts, and that it waits for others.
@@ -51,6 +51,6 @@ pub(crate) fn laws_of_looks()
     ensures { (plan : Planned) (first : ℕ) (v : Progress) (step : Step) → IsPlan plan → RunReaches plan first v →
         TellsOfStep plan v step (look plan v step) }
 {
-    kt_plans::rows_of_runs();
-    kt_plans::steps_of_runs();
+    kt_promises::rows_of_runs();
+    kt_promises::steps_of_runs();
 }

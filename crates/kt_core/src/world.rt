@@ -3,11 +3,11 @@
 ghost use Rattle.std.specs.Prelude.{◌≡◌, ◌<◌, ◌≤◌, ◌^◌, ◌*◌, ◌-◌, ℕ, IfOk, length, nat_lt};
 ghost use Rattle.kt_fifo.specs.Channels.{channel};
 ghost use Rattle.kt_system.specs.Reads.{tally_of};
-ghost use Rattle.kt_plans.specs.Progress.{progress_at_start, Progress};
-ghost use Rattle.kt_plans.specs.Follows.{BeginsPlan};
-ghost use Rattle.kt_plans.specs.Headline.{IsCertified, IsPromised};
-ghost use Rattle.kt_plans.specs.Lines.{EachIsOnceOnItsLine};
-ghost use Rattle.kt_plans.specs.Tallies.{Tallies};
+ghost use Rattle.kt_promises.specs.Progress.{progress_at_start, Progress};
+ghost use Rattle.kt_meaning.specs.Follows.{BeginsPlan};
+ghost use Rattle.kt_meaning.specs.Promised.{IsCertified, IsPromised};
+ghost use Rattle.kt_promises.specs.Lines.{EachIsOnceOnItsLine};
+ghost use Rattle.kt_promises.specs.Tallies.{Tallies};
 ghost use Rattle.kt_core.specs.Worlds.{IsOpening};
 ghost use Rattle.kt_core.specs.Shown.{Mirrors, MirrorsPut, IsReached, tally_shown};
 
@@ -124,10 +124,10 @@ impl World {
         ensures once { (first : ℕ) (v : Progress) → Mirrors self.now.agenda self.now.system first v →
             EachIsOnceOnItsLine v.now }
     {
-        kt_plans::logs_of_runs();
-        kt_plans::certificates_of_promised_logs();
-        kt_plans::logs_follow_plans();
-        kt_plans::messages_of_runs();
+        kt_promises::logs_of_runs();
+        kt_meaning::certificates_of_promised_logs();
+        kt_promises::logs_follow_plans();
+        kt_promises::messages_of_runs();
         self.system.log()
     }
 
@@ -138,9 +138,9 @@ impl World {
         ensures certified { IsCertified result.rows }
         ensures begins { BeginsPlan self.agenda.plan result.rows }
     {
-        kt_plans::logs_of_runs();
-        kt_plans::certificates_of_promised_logs();
-        kt_plans::logs_follow_plans();
+        kt_promises::logs_of_runs();
+        kt_meaning::certificates_of_promised_logs();
+        kt_promises::logs_follow_plans();
         self.system.into_log()
     }
 
@@ -164,7 +164,7 @@ impl World {
         ensures replies { result.replies ≤ result.asks }
         ensures decisions { result.decisions ≤ result.asks }
     {
-        kt_plans::tallies_of_runs();
+        kt_promises::tallies_of_runs();
         self.system.tally(inst)
     }
 

@@ -5,11 +5,11 @@ use Rattle.std.proofs.lemmas.List.{append-nil, drop-append-le, drop_all, length_
 use Rattle.std.proofs.lemmas.Option.{slice_get_within}
 use Rattle.std.proofs.Math.Seq.{take-append_seam}
 use Rattle.kt_spacetime.specs.declared.event.Event.{Event}
-use Rattle.kt_cuts.specs.declared.rules.Rule.{Rule}
-use Rattle.kt_cuts.specs.Past.{Past, start, after}
-use Rattle.kt_cuts.specs.Legal.{IsLegal, IsLegalAfter, broken_rule, first_broken, first_broken_after, or_later}
-use Rattle.kt_cuts.proofs.Items.{get_left, get_seam}
-use Rattle.kt_chain.specs.declared.certificate.Certificate.{Certificate}
+use Rattle.kt_spacetime.specs.declared.rules.Rule.{Rule}
+use Rattle.kt_meaning.specs.Past.{Past, start, after}
+use Rattle.kt_meaning.specs.Legal.{IsLegal, IsLegalAfter, broken_rule, first_broken, first_broken_after, or_later}
+use Rattle.kt_meaning.proofs.Items.{get_left, get_seam}
+use Rattle.kt_spacetime.specs.declared.certificate.Certificate.{Certificate}
 use Rattle.kt_walk.specs.WalkOf.{WalkOf}
 use Rattle.kt_walk.specs.WalkParts.{WalkParts}
 use Rattle.kt_picture.specs.declared.breach.Breach.{Breach}

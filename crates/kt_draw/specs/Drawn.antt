@@ -1,17 +1,17 @@
 -- Which rows of a stored log are drawn, and what the picture is.
 use Rattle.std.specs.Prelude.{◌≡◌, ◌≤◌, ◌<◌, ◌+◌, ◌-◌, ℕ, if◌then◌else◌, nat_lt, Bool, true, false, List, [], ◌++◌, take, length, slice_get, Option, Some, None, IfSome, codes}
 use Rattle.kt_spacetime.specs.declared.event.Event.{Event}
-use Rattle.kt_cuts.specs.Legal.{IsLegal, first_broken}
+use Rattle.kt_meaning.specs.Legal.{IsLegal, first_broken}
 use Rattle.kt_log_text.specs.declared.fault.LogFault.TheVariants as log
 use Rattle.kt_log_text.specs.Reading.{rows_unread}
 use Rattle.kt_log_text.specs.Texts.{IsFirstLogFault}
-use Rattle.kt_chain.specs.declared.certificate.Certificate.{Certificate}
-use Rattle.kt_checker.specs.declared.verdict.Verdict.{Verdict}
-use Rattle.kt_checker.specs.declared.verdict.Verdict.TheVariants.{No}
-use Rattle.kt_checker.specs.declared.verdict.Why.TheVariants as why
-use Rattle.kt_checker.specs.Order.{IsCheckerAnswer}
+use Rattle.kt_spacetime.specs.declared.certificate.Certificate.{Certificate}
+use Rattle.kt_spacetime.specs.declared.verdict.Verdict.{Verdict}
+use Rattle.kt_spacetime.specs.declared.verdict.Verdict.TheVariants.{No}
+use Rattle.kt_spacetime.specs.declared.verdict.Why.TheVariants as why
+use Rattle.kt_meaning.specs.Answers.{IsCheckerAnswer}
 use Rattle.kt_checker.specs.Streamed.{SaysRows}
-use Rattle.kt_checker.specs.Words.{verdict_words}
+use Rattle.kt_spacetime.specs.Verdicts.{verdict_words}
 use Rattle.kt_explain.specs.declared.explanation.Explanation.{Explanation}
 use Rattle.kt_explain.specs.declared.explanation.Explanation.TheVariants.{Orphan}
 use Rattle.kt_explain.specs.Told.{IsExplanation}

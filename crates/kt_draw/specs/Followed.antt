@@ -1,7 +1,7 @@
 -- A log that is drawn while its rows are read.
 use Rattle.std.specs.Prelude.{◌≡◌, ◌⊎◌, ◌≤◌, ◌+◌, ◌-◌, ℕ, if◌then◌else◌, nat_lt, Option, Some, None, List, [], length, take, drop}
 use Rattle.kt_spacetime.specs.declared.event.Event.{Event}
-use Rattle.kt_chain.specs.declared.certificate.Certificate.{Certificate}
+use Rattle.kt_spacetime.specs.declared.certificate.Certificate.{Certificate}
 use Rattle.kt_walk.specs.WalkOf.{WalkOf}
 use Rattle.kt_walk.specs.WalkParts.{WalkParts}
 use Rattle.kt_picture.specs.declared.diagram.Diagram.{Diagram}

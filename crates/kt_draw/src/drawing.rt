@@ -1,7 +1,7 @@
 //! Rows of a stored log drawn, with what certificates tell of it.
 
 ghost use Rattle.std.specs.Prelude.{◌≡◌, [], IfOk, IfErr, OnOk};
-ghost use Rattle.kt_checker.specs.Order.{IsCheckerAnswer};
+ghost use Rattle.kt_meaning.specs.Answers.{IsCheckerAnswer};
 ghost use Rattle.kt_draw.specs.Drawn.{answer_sentence, IsCertifiedPicture, IsOrphanDrawn, IsUndrawnLog, orphan_told};
 ghost use Rattle.kt_draw.specs.Followed.{ReadingOf};
 
@@ -9,12 +9,11 @@ use crate::fault::DrawFault;
 use crate::reading::Reading;
 use crate::span::Span;
 use kt_base::{Memory, MsgNo};
-use kt_chain::Certificate;
-use kt_checker::{Verdict, Why, check};
+use kt_checker::check;
 use kt_explain::{Explanation, explain};
 use kt_picture::Evidence;
 use kt_plan::Names;
-use kt_spacetime::SpaceTime;
+use kt_spacetime::{Certificate, SpaceTime, Verdict, Why};
 use std::alloc::Global;
 
 /// The picture of rows of a log as `draw_stream` has it, with what certificates tell of it: the messages of their chains in

@@ -2,9 +2,9 @@
 
 ghost use Rattle.std.specs.Prelude.{◌≡◌, ◌≤◌, ◌<◌, ◌+◌, ◌-◌, ◌^◌, ◌++◌, ◌∷◌, [], ℕ, List, Option, Some, None, Err, IfOk, OnOk, length, take};
 ghost use Rattle.kt_spacetime.specs.declared.event.Event.{Event};
-ghost use Rattle.kt_cuts.specs.declared.rules.Rule.{Rule};
-ghost use Rattle.kt_cuts.specs.declared.legality.LegalFault.TheVariants as legality;
-ghost use Rattle.kt_cuts.specs.Legal.{first_broken};
+ghost use Rattle.kt_spacetime.specs.declared.rules.Rule.{Rule};
+ghost use Rattle.kt_rules.specs.declared.legality.LegalFault.TheVariants as legality;
+ghost use Rattle.kt_meaning.specs.Legal.{first_broken};
 ghost use Rattle.kt_picture.specs.declared.diagram.Sheet.{Sheet};
 ghost use Rattle.kt_picture.specs.DiagramOf.{SheetOf};
 ghost use Rattle.kt_draw.specs.Drawn.{first_row};
@@ -12,8 +12,8 @@ ghost use Rattle.kt_draw.specs.Followed.{FollowedOf, last_wanted};
 
 use crate::span::{Span, before_of, last_wanted};
 use kt_base::Memory;
-use kt_cuts::LegalFault;
 use kt_picture::{Diagram, Sheet};
+use kt_rules::LegalFault;
 use kt_spacetime::Event;
 use kt_walk::Walk;
 use std::alloc::Global;

@@ -12,9 +12,9 @@ use crate::followed::Followed;
 use crate::reach::Reach;
 use crate::span::{Span, window_of};
 use kt_base::Memory;
-use kt_cuts::LegalFault;
 use kt_picture::{Breach, Evidence, caption};
 use kt_plan::Names;
+use kt_rules::LegalFault;
 use kt_spacetime::Event;
 use std::alloc::Global;
 

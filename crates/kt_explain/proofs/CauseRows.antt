@@ -3,15 +3,15 @@ use Rattle.std.specs.Prelude.{Bool, true, false}
 use Rattle.std.proofs.Common.{◌≡◌, ℕ, suc, ◌+◌, Some, None, List, refl, sym, ap, ◌∙◌, subst, add-one}
 use Rattle.kt_spacetime.specs.declared.event.Event.{Event}
 use Rattle.kt_spacetime.specs.declared.event.Event.TheVariants.{Decided}
-use Rattle.kt_cuts.specs.Messages.{row_at}
-use Rattle.kt_cuts.proofs.Lists.{any_at, any_from}
-use Rattle.kt_cuts.proofs.SortedFacts.{some_same}
-use Rattle.kt_chain.specs.declared.certificate.Certificate.{Certificate}
-use Rattle.kt_checker.specs.declared.verdict.Verdict.TheVariants.{No}
-use Rattle.kt_checker.specs.declared.verdict.Why.TheVariants as why
-use Rattle.kt_checker.specs.Unwilling.{is_unwilling, has_unwilling}
-use Rattle.kt_checker.specs.Order.{IsCheckerAnswer}
-use Rattle.kt_explain.specs.Finding.{HasNoRow, IsFirstRow}
+use Rattle.kt_meaning.specs.Messages.{row_at}
+use Rattle.kt_meaning.proofs.Lists.{any_at, any_from}
+use Rattle.kt_meaning.proofs.Items.{some_same}
+use Rattle.kt_spacetime.specs.declared.certificate.Certificate.{Certificate}
+use Rattle.kt_spacetime.specs.declared.verdict.Verdict.TheVariants.{No}
+use Rattle.kt_spacetime.specs.declared.verdict.Why.TheVariants as why
+use Rattle.kt_meaning.specs.Unwilling.{is_unwilling, has_unwilling}
+use Rattle.kt_meaning.specs.Answers.{IsCheckerAnswer}
+use Rattle.kt_histories.specs.Finding.{HasNoRow, IsFirstRow}
 use Rattle.kt_explain.specs.Told.{HasDecided}
 use Rattle.kt_explain.proofs.Faults.{certificate_fault, none_some}
 

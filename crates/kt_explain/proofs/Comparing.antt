@@ -2,23 +2,23 @@
 use Rattle.std.proofs.Common.{◌≡◌, ◌∙◌, ◌+◌, ◌<◌, ◌≤◌, arith, ℕ, Bool, true, false, Option, Some, None, List, map, length, take, refl, sym, ap, subst, inl, inr}
 use Rattle.std.specs.List.{slice_get}
 use Rattle.std.specs.Prelude.{IfNone, IfSome}
-use Rattle.kt_cuts.proofs.SortedFacts.{some_same}
+use Rattle.kt_meaning.proofs.Items.{some_same}
 use Rattle.std.proofs.lemmas.Bool.{cases_order}
 use Rattle.std.proofs.lemmas.Option.{slice_get_within}
 use Rattle.kt_spacetime.specs.declared.event.Event.{Event}
 use Rattle.kt_spacetime.specs.declared.event.Event.TheVariants.{Decided}
-use Rattle.kt_cuts.specs.declared.rules.Rule.{Rule}
-use Rattle.kt_cuts.specs.Past.{past, kind_of, initiator_of}
-use Rattle.kt_cuts.specs.Legal.{IsLegal}
-use Rattle.kt_cuts.specs.Chains.{members}
-use Rattle.kt_chain.specs.declared.certificate.Certificate.{Certificate}
-use Rattle.kt_certify.specs.Certificates.{certificates}
-use Rattle.kt_certify.specs.Faults.{HasNoChain}
-use Rattle.kt_checker.specs.declared.verdict.Verdict.TheVariants.{No}
-use Rattle.kt_checker.specs.declared.verdict.Why.{Why}
-use Rattle.kt_checker.specs.declared.verdict.Why.TheVariants as why
-use Rattle.kt_checker.specs.Order.{IsCheckerAnswer}
-use Rattle.kt_checker.specs.Passing.{AreComplete, HasLists, IsAsInLog, IsSecond}
+use Rattle.kt_spacetime.specs.declared.rules.Rule.{Rule}
+use Rattle.kt_meaning.specs.Past.{past, kind_of, initiator_of}
+use Rattle.kt_meaning.specs.Legal.{IsLegal}
+use Rattle.kt_meaning.specs.Chains.{members}
+use Rattle.kt_spacetime.specs.declared.certificate.Certificate.{Certificate}
+use Rattle.kt_meaning.specs.Certificates.{certificates}
+use Rattle.kt_meaning.specs.Fitness.{HasNoChain}
+use Rattle.kt_spacetime.specs.declared.verdict.Verdict.TheVariants.{No}
+use Rattle.kt_spacetime.specs.declared.verdict.Why.{Why}
+use Rattle.kt_spacetime.specs.declared.verdict.Why.TheVariants as why
+use Rattle.kt_meaning.specs.Answers.{IsCheckerAnswer}
+use Rattle.kt_meaning.specs.Passing.{AreComplete, HasLists, IsAsInLog, IsSecond}
 use Rattle.kt_explain.specs.Compared.{AreAlike, AreSame, IsAlone, IsFirstAt, IsSecondAt, IsOfCertificate, asks_all, asks_chains, certificate_at}
 use Rattle.kt_explain.specs.Told.{IsItsFirst}
 use Rattle.kt_explain.proofs.SameLists.{members_equal, processes_equal}

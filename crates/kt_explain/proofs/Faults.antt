@@ -5,23 +5,23 @@ use Rattle.std.specs.List.{slice_get}
 use Rattle.kt_base.specs.declared.words.Kind.{Kind}
 use Rattle.kt_spacetime.specs.declared.event.Event.{Event}
 use Rattle.kt_spacetime.specs.declared.event.Event.TheVariants.{Decided}
-use Rattle.kt_cuts.specs.declared.rules.Rule.{Rule}
-use Rattle.kt_cuts.specs.Past.{Past, start, past, after, kind_of}
-use Rattle.kt_cuts.specs.Rules.{all_rules}
-use Rattle.kt_cuts.specs.Legal.{IsLegal, IsLegalAfter, keeps, broken_rule, or_later, first_broken_after, first_broken}
-use Rattle.kt_cuts.specs.Cuts.{IsConsistent}
-use Rattle.kt_cuts.specs.Chains.{members}
-use Rattle.kt_cuts.proofs.LegalLogs.{legal_unbroken}
-use Rattle.kt_cuts.proofs.RowRules.{not_true}
-use Rattle.kt_cuts.proofs.SortedFacts.{some_same}
-use Rattle.kt_chain.specs.declared.certificate.Certificate.{Certificate}
-use Rattle.kt_checker.specs.declared.verdict.Verdict.{Verdict}
-use Rattle.kt_checker.specs.declared.verdict.Verdict.TheVariants.{Yes, No}
-use Rattle.kt_checker.specs.declared.verdict.Why.{Why}
-use Rattle.kt_checker.specs.declared.verdict.Why.TheVariants as why
-use Rattle.kt_checker.specs.Unwilling.{has_unwilling}
-use Rattle.kt_checker.specs.Passing.{HasCertificate, IsAsInLog, IsSecond, decided_cut}
-use Rattle.kt_checker.specs.Order.{IsCheckerAnswer, IsBadLog, IsFirstWhy}
+use Rattle.kt_spacetime.specs.declared.rules.Rule.{Rule}
+use Rattle.kt_meaning.specs.Past.{Past, start, past, after, kind_of}
+use Rattle.kt_spacetime.specs.Rules.{all_rules}
+use Rattle.kt_meaning.specs.Legal.{IsLegal, IsLegalAfter, keeps, broken_rule, or_later, first_broken_after, first_broken}
+use Rattle.kt_meaning.specs.Cuts.{IsConsistent}
+use Rattle.kt_meaning.specs.Chains.{members}
+use Rattle.kt_meaning.proofs.LegalLogs.{legal_unbroken}
+use Rattle.kt_meaning.proofs.RowRules.{not_true}
+use Rattle.kt_meaning.proofs.Items.{some_same}
+use Rattle.kt_spacetime.specs.declared.certificate.Certificate.{Certificate}
+use Rattle.kt_spacetime.specs.declared.verdict.Verdict.{Verdict}
+use Rattle.kt_spacetime.specs.declared.verdict.Verdict.TheVariants.{Yes, No}
+use Rattle.kt_spacetime.specs.declared.verdict.Why.{Why}
+use Rattle.kt_spacetime.specs.declared.verdict.Why.TheVariants as why
+use Rattle.kt_meaning.specs.Unwilling.{has_unwilling}
+use Rattle.kt_meaning.specs.Passing.{HasCertificate, IsAsInLog, IsSecond, decided_cut}
+use Rattle.kt_meaning.specs.Answers.{IsCheckerAnswer, IsBadLog, IsFirstWhy}
 use Rattle.kt_explain.specs.Told.{IsItsFirst}
 use Rattle.std.proofs.lemmas.Bool.{cases_order}
 use Rattle.kt_checker.proofs.Sound.{within}

@@ -2,17 +2,17 @@
 use Rattle.std.proofs.Common.{◌≡◌, ◌+◌, ◌∙◌, ◌++◌, ℕ, Option, Some, None, List, [], ◌∷◌, take, refl, sym, ap, subst, append-nil, inl, inr}
 use Rattle.std.specs.List.{AllZip, cons_option, filter_map, slice_get}
 use Rattle.std.proofs.lemmas.List.Elements.{filter_map-append}
-use Rattle.kt_cuts.proofs.Items.{take_item}
+use Rattle.kt_meaning.proofs.Items.{take_item}
 use Rattle.kt_explain.specs.declared.judged.OpenInstance.{OpenInstance}
-use Rattle.kt_cuts.specs.Past.{Past}
+use Rattle.kt_meaning.specs.Past.{Past}
 use Rattle.kt_explain.specs.Judged.{IsOpenInstance, begun_open}
 use Rattle.kt_spacetime.specs.declared.event.Event.{Event}
-use Rattle.kt_cuts.specs.Legal.{IsLegal}
-use Rattle.kt_chain.specs.declared.certificate.Certificate.{Certificate}
-use Rattle.kt_checker.specs.declared.verdict.Verdict.{Verdict}
-use Rattle.kt_checker.specs.declared.verdict.Verdict.TheVariants.{Yes, No}
-use Rattle.kt_checker.specs.declared.verdict.Why.TheVariants as why
-use Rattle.kt_checker.specs.Order.{IsCheckerAnswer}
+use Rattle.kt_meaning.specs.Legal.{IsLegal}
+use Rattle.kt_spacetime.specs.declared.certificate.Certificate.{Certificate}
+use Rattle.kt_spacetime.specs.declared.verdict.Verdict.{Verdict}
+use Rattle.kt_spacetime.specs.declared.verdict.Verdict.TheVariants.{Yes, No}
+use Rattle.kt_spacetime.specs.declared.verdict.Why.TheVariants as why
+use Rattle.kt_meaning.specs.Answers.{IsCheckerAnswer}
 
 zip_push : {X Y : Type 0} (R : X → Y → Type 0) (xs : List X) (ys : List Y) (x : X) (y : Y) → AllZip R xs ys → R x y → AllZip R (xs ++ x ∷ []) (ys ++ y ∷ [])
 zip_push R [] [] x y h r = (r, tt)

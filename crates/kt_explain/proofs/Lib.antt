@@ -1,19 +1,11 @@
 pub mod Leftovers
 pub mod Receivers
 pub mod FilledSets
-pub mod LastRows
-pub mod FoundRows
-pub mod Gives
 pub mod Orphaned
 pub mod Faults
 pub mod CauseRows
 pub mod SameLists
-pub mod ReceivedRows
-pub mod Begun
-pub mod Delivered
-pub mod Demands
-pub mod KnownRows
-pub mod Replaying
 pub mod Comparing
-pub mod InTransit
-pub mod TracedMessages
+mod Bases
+mod DecidedRows
+mod OpenInstances

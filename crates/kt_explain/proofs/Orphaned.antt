@@ -5,18 +5,18 @@ use Rattle.std.specs.Prelude.{if◌then◌else◌, Contains}
 use Rattle.std.proofs.lemmas.Bool.{cases_lt}
 use Rattle.kt_base.specs.declared.words.Kind.TheVariants.{Rollback}
 use Rattle.kt_spacetime.specs.declared.event.Event.{Event}
-use Rattle.kt_cuts.specs.declared.deeds.Deed.{Deed}
-use Rattle.kt_cuts.specs.declared.deeds.Deed.TheVariants as deed
-use Rattle.kt_cuts.specs.Past.{Past, past, kind_of, is_rollback, is_rollback_kind, is_member}
-use Rattle.kt_cuts.specs.Legal.{IsLegal, has_deed}
-use Rattle.kt_cuts.specs.Cuts.{part, IsOrphan, rollback_cut}
-use Rattle.kt_cuts.specs.Least.{cut_without}
-use Rattle.kt_cuts.specs.Chains.{members}
-use Rattle.kt_cuts.proofs.Leastness.{members_cut}
-use Rattle.kt_cuts.proofs.Members.{contains_member, member_contained}
-use Rattle.kt_cuts.proofs.OrphanFacts.{between_of, orphan_of}
+use Rattle.kt_spacetime.specs.declared.deeds.Deed.{Deed}
+use Rattle.kt_spacetime.specs.declared.deeds.Deed.TheVariants as deed
+use Rattle.kt_meaning.specs.Past.{Past, past, kind_of, is_rollback, is_rollback_kind, is_member}
+use Rattle.kt_meaning.specs.Legal.{IsLegal, has_deed}
+use Rattle.kt_meaning.specs.Cuts.{part, IsOrphan, rollback_cut}
+use Rattle.kt_meaning.specs.Least.{cut_without}
+use Rattle.kt_meaning.specs.Chains.{members}
+use Rattle.kt_meaning.proofs.Leastness.{members_cut}
+use Rattle.kt_meaning.proofs.Members.{contains_member, member_contained}
+use Rattle.kt_rules.proofs.OrphanFacts.{between_of, orphan_of}
 use Rattle.kt_base.specs.declared.words.Kind.{Kind}
-use Rattle.kt_checker.specs.Passing.{decided_cut}
+use Rattle.kt_meaning.specs.Passing.{decided_cut}
 use Rattle.kt_explain.specs.declared.orphans.Orphan.{Orphan}
 use Rattle.kt_explain.specs.Told.{HasParts, IsLeastOrphan, IsOrphanTold}
 

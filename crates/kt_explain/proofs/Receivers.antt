@@ -7,17 +7,14 @@ use Rattle.std.proofs.lemmas.Bool.{cases_eq}
 use Rattle.std.proofs.lemmas.List.Elements.{filter_map-append, Contains-append_left, Contains-append_right, Contains-append_cases}
 use Rattle.kt_base.specs.Sets.{has}
 use Rattle.kt_spacetime.specs.declared.event.Event.{Event}
-use Rattle.kt_cuts.specs.Past.{past}
-use Rattle.kt_cuts.specs.Messages.{row_at}
+use Rattle.kt_meaning.specs.Past.{past}
+use Rattle.kt_meaning.specs.Messages.{row_at}
 use Rattle.kt_explain.specs.Judged.{receiver_in_transit}
+use Rattle.kt_histories.proofs.FoundRows.{range_more}
 
 -- those of the messages of the first so many rows
 abbrev pub receivers_to : List Event → ℕ → List ℕ
 receivers_to rows n = filter_map (λ msg. receiver_in_transit (past rows) msg (row_at rows msg)) (range_with_len 1 n)
-
-pub range_more : (a n j : ℕ) → a + n ≡ j → range_with_len a (suc n) ≡ range_with_len a n ++ j ∷ []
-range_more a zero j e = let same : a ≡ j = omega (arith, e) in ap (λ (k : ℕ). k ∷ []) same
-range_more a (suc n) j e = ap (λ (l : List ℕ). a ∷ l) (range_more (a + 1) n j (omega (arith, e)))
 
 row_there : (rows : List Event) (i n : ℕ) → i + 1 ≡ n → row_at rows n ≡ slice_get rows i
 row_there rows i zero e = absurd (omega (arith, e))

@@ -5,7 +5,7 @@ use Rattle.kt_explain.specs.Compared.{SameAt, SameMembers, counted}
 use Rattle.std.specs.List.{slice_get}
 use Rattle.std.proofs.lemmas.Bool.{cases_lt}
 use Rattle.std.proofs.lemmas.Option.{slice_get_past}
-use Rattle.kt_cuts.proofs.SortedFacts.{some_same}
+use Rattle.kt_meaning.proofs.Items.{some_same}
 
 pub all_same : {X : Type 0} (xs ys : List X) → ((n : ℕ) → slice_get xs n ≡ slice_get ys n) → xs ≡ ys
 all_same [] [] h = refl

@@ -2,10 +2,10 @@
 use Rattle.std.specs.Prelude.{◌≡◌, ◌<◌, ℕ, zero, suc, Bool, true, false, Option, Some, None, option_map, List, [], length, slice_get}
 use Rattle.kt_spacetime.specs.declared.event.Event.{Event}
 use Rattle.kt_chain.specs.Spelling.{Member}
-use Rattle.kt_chain.specs.declared.certificate.Certificate.{Certificate}
-use Rattle.kt_certify.specs.Certificates.{certificates}
-use Rattle.kt_checker.specs.declared.verdict.Why.{Why}
-use Rattle.kt_checker.specs.declared.verdict.Why.TheVariants.{BadLog, Unknown, Cause, Members, Orphan}
+use Rattle.kt_spacetime.specs.declared.certificate.Certificate.{Certificate}
+use Rattle.kt_meaning.specs.Certificates.{certificates}
+use Rattle.kt_spacetime.specs.declared.verdict.Why.{Why}
+use Rattle.kt_spacetime.specs.declared.verdict.Why.TheVariants.{BadLog, Unknown, Cause, Members, Orphan}
 use Rattle.kt_checker.specs.Judged.{IsFirstOfInstance}
 use Rattle.kt_explain.specs.declared.compared.Compared.{Compared}
 use Rattle.kt_explain.specs.declared.compared.Differs.{Differs}

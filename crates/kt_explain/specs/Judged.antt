@@ -4,12 +4,12 @@ use Rattle.std.specs.List.{AllZip, filter_map, list_any, range_with_len}
 use Rattle.kt_base.specs.Sets.{has}
 use Rattle.kt_spacetime.specs.declared.event.Event.{Event}
 use Rattle.kt_spacetime.specs.declared.event.Event.TheVariants as event
-use Rattle.kt_cuts.specs.Past.{Past, past}
-use Rattle.kt_cuts.specs.Legal.{is_in, is_undelivered}
-use Rattle.kt_cuts.specs.Messages.{row_at}
+use Rattle.kt_meaning.specs.Past.{Past, past}
+use Rattle.kt_meaning.specs.Legal.{is_in, is_undelivered}
+use Rattle.kt_meaning.specs.Messages.{row_at}
 use Rattle.kt_base.specs.declared.words.Kind.{Kind}
 use Rattle.kt_base.specs.declared.words.Kind.TheVariants.{Checkpoint, Rollback}
-use Rattle.kt_chain.specs.declared.certificate.Certificate.{Certificate}
+use Rattle.kt_spacetime.specs.declared.certificate.Certificate.{Certificate}
 use Rattle.kt_explain.specs.declared.judged.Decided.{Decided}
 use Rattle.kt_explain.specs.declared.judged.Judged.{Judged}
 use Rattle.kt_explain.specs.declared.judged.OpenInstance.{OpenInstance}

@@ -1,6 +1,5 @@
-pub mod Finding
-pub mod Demands
-pub mod Breaches
 pub mod Compared
 pub mod Judged
 pub mod Told
+pub mod Answers
+pub mod Judging

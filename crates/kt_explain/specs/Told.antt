@@ -4,28 +4,28 @@ use Rattle.kt_spacetime.specs.declared.event.Event.{Event}
 use Rattle.kt_spacetime.specs.declared.event.Event.TheVariants as event
 use Rattle.kt_base.specs.declared.words.Cause.{Cause}
 use Rattle.kt_base.specs.declared.words.Kind.{Kind}
-use Rattle.kt_cuts.specs.Past.{Past, past}
-use Rattle.kt_cuts.specs.Cuts.{IsOrphan}
-use Rattle.kt_cuts.specs.Chains.{members}
-use Rattle.kt_checker.specs.Passing.{decided_cut}
-use Rattle.kt_cuts.specs.Legal.{is_join}
-use Rattle.kt_cuts.specs.Messages.{IsMessage, row_at}
-use Rattle.kt_chain.specs.declared.certificate.Certificate.{Certificate}
-use Rattle.kt_certify.specs.Faults.{HasNoChain}
-use Rattle.kt_checker.specs.declared.verdict.Verdict.{Verdict}
-use Rattle.kt_checker.specs.declared.verdict.Verdict.TheVariants.{Yes, No}
-use Rattle.kt_checker.specs.declared.verdict.Why.{Why}
-use Rattle.kt_checker.specs.declared.verdict.Why.TheVariants as why
-use Rattle.kt_checker.specs.Unwilling.{is_unwilling}
+use Rattle.kt_meaning.specs.Past.{Past, past}
+use Rattle.kt_meaning.specs.Cuts.{IsOrphan}
+use Rattle.kt_meaning.specs.Chains.{members}
+use Rattle.kt_meaning.specs.Passing.{decided_cut}
+use Rattle.kt_meaning.specs.Legal.{is_join}
+use Rattle.kt_meaning.specs.Messages.{IsMessage, row_at}
+use Rattle.kt_spacetime.specs.declared.certificate.Certificate.{Certificate}
+use Rattle.kt_meaning.specs.Fitness.{HasNoChain}
+use Rattle.kt_spacetime.specs.declared.verdict.Verdict.{Verdict}
+use Rattle.kt_spacetime.specs.declared.verdict.Verdict.TheVariants.{Yes, No}
+use Rattle.kt_spacetime.specs.declared.verdict.Why.{Why}
+use Rattle.kt_spacetime.specs.declared.verdict.Why.TheVariants as why
+use Rattle.kt_meaning.specs.Unwilling.{is_unwilling}
 use Rattle.kt_checker.specs.Judged.{IsFirstCertificate}
 use Rattle.kt_explain.specs.declared.bad_row.BadRow.{BadRow}
 use Rattle.kt_explain.specs.declared.orphans.Orphan.{Orphan as Orphans}
 use Rattle.kt_explain.specs.declared.explanation.Explanation.{Explanation}
 use Rattle.kt_explain.specs.declared.explanation.Explanation.TheVariants.{Nothing, Judged, Objection, NoObjection, Compared, Unlinked, Orphan, BadLog}
 use Rattle.kt_explain.specs.Judged.{IsJudgedSo}
-use Rattle.kt_explain.specs.Breaches.{IsFirstUnmet, IsLater, IsUndoing, IsUndoneIn, IsWaitingAt}
+use Rattle.kt_histories.specs.Breaches.{IsFirstUnmet, IsLater, IsUndoing, IsUndoneIn, IsWaitingAt}
 use Rattle.kt_explain.specs.Compared.{IsCompared, IsOfCertificate}
-use Rattle.kt_explain.specs.Finding.{HasNoRow, IsFirstRow, IsLastNumber, IsLastRow, receives}
+use Rattle.kt_histories.specs.Finding.{HasNoRow, IsFirstRow, IsLastNumber, IsLastRow, receives}
 
 -- a certificate is the first one of an instance
 abbrev pub IsItsFirst : List Certificate → ℕ → Certificate → Type 0

@@ -1,26 +1,24 @@
 //! A row that breaks a rule, as it is told, and what is told of a log that has one.
 
 ghost use Rattle.std.specs.Prelude.{◌≡◌, ◌≤◌, ◌^◌, List, None, Some, IfOk, length};
-ghost use Rattle.kt_chain.specs.declared.certificate.Certificate.{Certificate};
-ghost use Rattle.kt_checker.specs.declared.verdict.Verdict.TheVariants.{No};
-ghost use Rattle.kt_checker.specs.declared.verdict.Why.TheVariants as why;
-ghost use Rattle.kt_checker.specs.Order.{IsBadLog};
-ghost use Rattle.kt_cuts.specs.Legal.{first_broken};
+ghost use Rattle.kt_spacetime.specs.declared.certificate.Certificate.{Certificate};
+ghost use Rattle.kt_spacetime.specs.declared.verdict.Verdict.TheVariants.{No};
+ghost use Rattle.kt_spacetime.specs.declared.verdict.Why.TheVariants as why;
+ghost use Rattle.kt_meaning.specs.Answers.{IsBadLog};
+ghost use Rattle.kt_meaning.specs.Legal.{first_broken};
 ghost use Rattle.kt_explain.specs.Told.{IsExplanation};
-ghost use Rattle.kt_explain.specs.Breaches.{IsLater};
-ghost use Rattle.kt_explain.specs.declared.breach.Breach.TheVariants as told;
+ghost use Rattle.kt_histories.specs.Breaches.{IsLater};
+ghost use Rattle.kt_histories.specs.declared.breach.Breach.TheVariants as told;
 
-use crate::breach::Breach;
-use crate::breach::before::Before;
 use crate::explanation::Explanation;
-use crate::finding::{Sought, first_row};
-use crate::undoing::undone_in;
-use crate::waiting::Waiting;
-use crate::words::{Row, say};
 use kt_base::{Memory, MsgNo, RowNo};
-use kt_checker::Why;
-use kt_cuts::Rule;
-use kt_spacetime::Event;
+use kt_histories::breach::Breach;
+use kt_histories::breach::before::Before;
+use kt_histories::finding::{Sought, first_row};
+use kt_histories::undoing::undone_in;
+use kt_histories::waiting::Waiting;
+use kt_histories::words::{Row, say};
+use kt_spacetime::{Event, Rule, Why};
 use std::alloc::Global;
 use std::fmt;
 

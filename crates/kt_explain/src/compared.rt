@@ -1,23 +1,22 @@
 //! A certificate that does not pass, beside the one that the log means.
 
 ghost use Rattle.std.specs.Prelude.{◌≡◌, ◌↔◌, ◌≤◌, ◌<◌, ℕ, true, false, List, Option, Some, length, slice_get, option_map, IfOk, IfSome, IfNone, IsTrue};
-ghost use Rattle.kt_chain.specs.declared.certificate.Certificate.{Certificate as Certificates};
-ghost use Rattle.kt_checker.specs.declared.verdict.Verdict.TheVariants.{No};
-ghost use Rattle.kt_checker.specs.Order.{IsCheckerAnswer};
-ghost use Rattle.kt_certify.specs.Certificates.{certificates as certificates_meant};
-ghost use Rattle.kt_certify.specs.Faults.{HasNoChain, IsFaultOf};
-ghost use Rattle.kt_cuts.specs.Legal.{IsLegal};
-ghost use Rattle.kt_checker.specs.declared.verdict.Verdict.{Verdict};
+ghost use Rattle.kt_spacetime.specs.declared.certificate.Certificate.{Certificate as Certificates};
+ghost use Rattle.kt_spacetime.specs.declared.verdict.Verdict.TheVariants.{No};
+ghost use Rattle.kt_meaning.specs.Answers.{IsCheckerAnswer};
+ghost use Rattle.kt_meaning.specs.Certificates.{certificates as certificates_meant};
+ghost use Rattle.kt_meaning.specs.Fitness.{HasNoChain, IsFaultOf};
+ghost use Rattle.kt_meaning.specs.Legal.{IsLegal};
+ghost use Rattle.kt_spacetime.specs.declared.verdict.Verdict.{Verdict};
 ghost use Rattle.kt_explain.specs.Compared.{AreAlike, DifferAt, DifferIn, IsAlone, IsUnlikeAt, SameAt, SameHead, SameMembers, counted, IsDifference, IsFirstAt, IsOfCertificate, IsSecondAt, asks_all, asks_chains, certificate_at};
 ghost use Rattle.kt_explain.specs.Told.{IsExplanation, IsItsFirst, IsNoOf};
 
 use crate::explanation::Explanation;
-use crate::finding::{Sought, last_number};
 use kt_base::{InstNo, Memory, MsgNo, ProcNo, RowNo};
-use kt_certify::{CertFault, certificates_of_legal_logs, certify};
-use kt_chain::{Certificate, Chain};
-use kt_checker::Why;
-use kt_spacetime::SpaceTime;
+use kt_certify::certify;
+use kt_histories::finding::{Sought, last_number};
+use kt_meaning::certificates_of_legal_logs;
+use kt_spacetime::{CertFault, Certificate, Chain, SpaceTime, Why};
 use std::alloc::Global;
 
 /// In what the certificates of an instance differ.

@@ -1,27 +1,24 @@
 //! What is told of an answer.
 
 ghost use Rattle.std.specs.Prelude.{◌≡◌, ◌≤◌, ◌^◌, ℕ, List, None, Some, IfOk, length};
-ghost use Rattle.kt_chain.specs.declared.certificate.Certificate.{Certificate as Certificates};
-ghost use Rattle.kt_certify.specs.Faults.{IsUnfit};
-ghost use Rattle.kt_certify.specs.declared.fault.Unfit.TheVariants as unfit;
-ghost use Rattle.kt_checker.specs.declared.verdict.Why.TheVariants as reason;
-ghost use Rattle.kt_checker.specs.declared.verdict.Verdict.{Verdict as Verdicts};
-ghost use Rattle.kt_checker.specs.declared.verdict.Verdict.TheVariants.{No};
-ghost use Rattle.kt_checker.specs.Order.{IsCheckerAnswer};
-ghost use Rattle.kt_cuts.specs.declared.rules.Rule.{Rule as Rules};
+ghost use Rattle.kt_spacetime.specs.declared.certificate.Certificate.{Certificate as Certificates};
+ghost use Rattle.kt_meaning.specs.Fitness.{IsUnfit};
+ghost use Rattle.kt_spacetime.specs.declared.unfit.Unfit.TheVariants as unfit;
+ghost use Rattle.kt_spacetime.specs.declared.verdict.Why.TheVariants as reason;
+ghost use Rattle.kt_spacetime.specs.declared.verdict.Verdict.{Verdict as Verdicts};
+ghost use Rattle.kt_spacetime.specs.declared.verdict.Verdict.TheVariants.{No};
+ghost use Rattle.kt_meaning.specs.Answers.{IsCheckerAnswer};
+ghost use Rattle.kt_spacetime.specs.declared.rules.Rule.{Rule as Rules};
 ghost use Rattle.kt_explain.specs.Told.{IsExplanation, IsNoOf};
 
 use crate::bad_row::{BadRow, bad_log, bad_row};
 use crate::compared::{Compared, compare, without};
-use crate::finding::{Sought, first_row};
 use crate::judged::{Judged, at_end};
 use crate::orphans::{Orphan, orphan_at};
-use crate::words::{Instance, Process, Row, say};
 use kt_base::{InstNo, Memory, ProcNo, RowNo};
-use kt_certify::{CertFault, Unfit};
-use kt_chain::Certificate;
-use kt_checker::{Verdict, Why};
-use kt_spacetime::{Event, SpaceTime};
+use kt_histories::finding::{Sought, first_row};
+use kt_histories::words::{Instance, Process, Row, say};
+use kt_spacetime::{CertFault, Certificate, Event, SpaceTime, Unfit, Verdict, Why};
 use std::alloc::Global;
 use std::fmt;
 

@@ -4,17 +4,16 @@ ghost use Rattle.std.specs.Prelude.{◌≡◌, ◌≢◌, ◌≤◌, ◌<◌, �
 ghost use Rattle.std.specs.List.{AllZip};
 ghost use Rattle.kt_base.specs.Sets.{has};
 ghost use Rattle.kt_spacetime.specs.declared.event.Event.{Event as Events};
-ghost use Rattle.kt_cuts.specs.Past.{past};
-ghost use Rattle.kt_cuts.specs.Legal.{IsLegal, is_in};
+ghost use Rattle.kt_meaning.specs.Past.{past};
+ghost use Rattle.kt_meaning.specs.Legal.{IsLegal, is_in};
 ghost use Rattle.kt_histories.specs.HistoriesOf.{HistoriesOf};
 ghost use Rattle.kt_explain.specs.Judged.{AreDecided, IsJudgedSo, IsOpenInstance, is_anyone_in, is_decided, is_left_open, begun_open, open_instances, receiver_in_transit, receivers_in_transit, is_drop};
 
-use crate::breach::before::begun_in;
-use crate::words::{Count, Instance, Process, say};
 use kt_base::{InstNo, Kind, Memory, MsgNo, ProcNo, ProcSet};
-use kt_chain::Certificate;
 use kt_histories::Histories;
-use kt_spacetime::{Event, SpaceTime};
+use kt_histories::breach::before::begun_in;
+use kt_histories::words::{Count, Instance, Process, say};
+use kt_spacetime::{Certificate, Event, SpaceTime};
 use std::alloc::Global;
 use std::fmt;
 

@@ -9,26 +9,31 @@
 //! demand `breach.rt` (`specs/Breaches`), found demand by demand in `breach/before.rt` and `breach/deliveries.rt`; what
 //! undid a message `undoing.rt`; what is in transit `waiting.rt`; certificates beside those that the log means
 //! `compared.rt` (`specs/Compared`); the orphan `orphans.rt`; after a yes `judged.rt` (`specs/Judged`); `words.rt`.
+//!
+//! A log judged by certificates that are named, or else by those that it means; and whether it came to rest.
+//!
+//! **What to change where:** what is answered `answer.rt`; by what, and when each answer comes `judging.rt`
+//! (`specs/Judging`); why a log means no certificates `unfit.rt`; on which lines of a text its records begin `numbered.rt`.
 #![tactic(auto)]
 
+mod answer;
 mod bad_row;
-mod breach;
 mod compared;
 mod explanation;
-mod finding;
 mod judged;
+mod judging;
 mod lines;
+mod numbered;
 mod orphans;
-mod undoing;
-mod waiting;
-mod words;
+mod unfit;
 
+pub use answer::Answer;
 pub use bad_row::BadRow;
-pub use breach::{Breach, Open, Outside};
 pub use compared::{Compared, Differs};
 pub use explanation::{Explanation, explain, explain_unfit};
-pub use finding::{Sought, first_number};
 pub use judged::{Decided, Judged, OpenInstance};
+pub use judging::{Judgement, judge};
 pub use lines::{Lines, Told};
+pub use numbered::{Numbered, RecordLines};
 pub use orphans::Orphan;
-pub use waiting::Waiting;
+pub use unfit::{UnfitTold, tell_unfit, unfit_of};

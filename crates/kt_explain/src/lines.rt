@@ -6,9 +6,9 @@ ghost use Rattle.kt_chain.specs.Spelling.{HasShortChains, certificate_records, r
 use crate::compared::{Compared, Differs};
 use crate::explanation::Explanation;
 use kt_base::{Memory, RowNo};
-use kt_chain::{Certificate, write_certs};
+use kt_chain::write_certs;
 use kt_log_text::push_fields;
-use kt_spacetime::{Event, SpaceTime};
+use kt_spacetime::{Certificate, Event, SpaceTime};
 use std::alloc::Global;
 use std::fmt;
 

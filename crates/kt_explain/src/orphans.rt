@@ -2,29 +2,27 @@
 
 ghost use Rattle.std.specs.Prelude.{◌≡◌, ◌<◌, ◌≤◌, ◌^◌, ◌↔◌, ℕ, List, Some, Contains, IfOk, IfNone, IfSome, IsTrue, length, slice_index, take};
 ghost use Rattle.kt_spacetime.specs.declared.event.Event.{Event as Events};
-ghost use Rattle.kt_cuts.specs.Past.{past, kind_of};
-ghost use Rattle.kt_cuts.specs.Legal.{IsLegal};
-ghost use Rattle.kt_cuts.specs.Cuts.{IsConsistent, IsOrphan};
-ghost use Rattle.kt_cuts.specs.Chains.{joins, members};
-ghost use Rattle.kt_checker.specs.declared.verdict.Verdict.TheVariants.{No};
-ghost use Rattle.kt_checker.specs.declared.verdict.Why.TheVariants as why;
-ghost use Rattle.kt_checker.specs.Order.{IsCheckerAnswer};
-ghost use Rattle.kt_checker.specs.Passing.{decided_cut};
+ghost use Rattle.kt_meaning.specs.Past.{past, kind_of};
+ghost use Rattle.kt_meaning.specs.Legal.{IsLegal};
+ghost use Rattle.kt_meaning.specs.Cuts.{IsConsistent, IsOrphan};
+ghost use Rattle.kt_meaning.specs.Chains.{joins, members};
+ghost use Rattle.kt_spacetime.specs.declared.verdict.Verdict.TheVariants.{No};
+ghost use Rattle.kt_spacetime.specs.declared.verdict.Why.TheVariants as why;
+ghost use Rattle.kt_meaning.specs.Answers.{IsCheckerAnswer};
+ghost use Rattle.kt_meaning.specs.Passing.{decided_cut};
 ghost use Rattle.kt_histories.specs.HistoriesOf.{HistoriesOf};
-ghost use Rattle.kt_explain.specs.Told.{HasParts, IsOrphanTold};
-ghost use Rattle.kt_explain.specs.Breaches.{IsUndoing};
-ghost use Rattle.kt_explain.specs.Told.{IsExplanation};
+ghost use Rattle.kt_explain.specs.Told.{HasParts, IsOrphanTold, IsExplanation};
+ghost use Rattle.kt_histories.specs.Breaches.{IsUndoing};
 
 use crate::compared::first_of;
 use crate::explanation::Explanation;
-use crate::finding::{Sought, last_number};
-use crate::undoing::undoing;
-use crate::words::{Message, Process, Row, say};
 use kt_base::{InstNo, Kind, Memory, MsgNo, ProcNo, RowNo};
-use kt_chain::Certificate;
-use kt_cuts::Cut;
 use kt_histories::Histories;
-use kt_spacetime::{Event, SpaceTime};
+use kt_histories::finding::{Sought, last_number};
+use kt_histories::undoing::undoing;
+use kt_histories::words::{Message, Process, Row, say};
+use kt_rules::Cut;
+use kt_spacetime::{Certificate, Event, SpaceTime};
 use std::alloc::Global;
 use std::fmt;
 

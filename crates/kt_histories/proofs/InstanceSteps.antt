@@ -10,25 +10,25 @@ use Rattle.kt_base.specs.declared.words.Kind.TheVariants.{Checkpoint, Rollback}
 use Rattle.kt_base.specs.declared.words.Cause.{Cause}
 use Rattle.kt_base.specs.declared.words.Verb.{Verb}
 use Rattle.kt_spacetime.specs.declared.event.Event.TheVariants as event
-use Rattle.kt_cuts.specs.declared.deeds.Deed.{Deed}
-use Rattle.kt_cuts.specs.declared.deeds.Deed.TheVariants as deed
+use Rattle.kt_spacetime.specs.declared.deeds.Deed.{Deed}
+use Rattle.kt_spacetime.specs.declared.deeds.Deed.TheVariants as deed
 use Rattle.kt_histories.specs.declared.process.Process.{Process}
 use Rattle.kt_histories.specs.declared.tables.Message.{Message}
-use Rattle.kt_cuts.specs.declared.instances.Instance.{Instance}
-use Rattle.kt_cuts.specs.Past.{Past, after, at_one, is_checkpoint, is_rollback, is_committed}
-use Rattle.kt_cuts.specs.Legal.{has_deed}
-use Rattle.kt_cuts.specs.Lists.{NumbersRise, last_of, sent_in, received_in}
+use Rattle.kt_rules.specs.declared.instances.Instance.{Instance}
+use Rattle.kt_meaning.specs.Past.{Past, after, at_one, is_checkpoint, is_rollback, is_committed}
+use Rattle.kt_meaning.specs.Legal.{has_deed}
+use Rattle.kt_rules.specs.Lists.{NumbersRise, last_of, sent_in, received_in}
 use Rattle.kt_histories.specs.Tables.{promoted, rolled}
-use Rattle.kt_cuts.specs.Changes.{HasOneMore, IsDecided}
-use Rattle.kt_cuts.specs.Standing.{ShowsInstances, IsAllowed, at_number, beginning_of_row, new_shown, ready_shown, rolled_back_shown}
+use Rattle.kt_rules.specs.Changes.{HasOneMore, IsDecided}
+use Rattle.kt_rules.specs.Standing.{ShowsInstances, IsAllowed, at_number, beginning_of_row, new_shown, ready_shown, rolled_back_shown}
 use Rattle.kt_histories.specs.Standing.{Shows, ShowsProcess, ShowsProcesses, message_at, receiving}
-use Rattle.kt_cuts.proofs.Items.{get_take, get_in_take, item_there}
-use Rattle.kt_cuts.proofs.SortedFacts.{some_same}
-use Rattle.kt_cuts.proofs.DeedFacts.{place_of_deed, has_at, sent_rises_take, received_rises_take}
-use Rattle.kt_cuts.proofs.LegalLogs.{kept}
-use Rattle.kt_cuts.proofs.Shown.{at_same, at_other}
+use Rattle.kt_meaning.proofs.Items.{get_take, get_in_take, item_there, some_same}
+use Rattle.kt_meaning.proofs.DeedFacts.{place_of_deed}
+use Rattle.kt_rules.proofs.DeedFacts.{has_at, sent_rises_take, received_rises_take}
+use Rattle.kt_meaning.proofs.LegalLogs.{kept}
+use Rattle.kt_meaning.proofs.Shown.{at_same, at_other}
 use Rattle.kt_histories.proofs.Shown.{processes_set, processes_same, messages_quiet}
-use Rattle.kt_cuts.proofs.InstanceSteps.{began_instances, begun_there, closed_rises, decided_instances, if_front, new_member, new_of_rollback, not_new, not_ready, ready_instances, ready_member, ready_of_checkpoint, rolled_known, same_instances, took_instances}
+use Rattle.kt_rules.proofs.InstanceSteps.{began_instances, begun_there, closed_rises, decided_instances, if_front, new_member, new_of_rollback, not_new, not_ready, ready_instances, ready_member, ready_of_checkpoint, rolled_known, same_instances, took_instances}
 
 -- a row that leaves the histories and the messages as they are
 pub shows_same : (ps qs : List Process) (ms : List (Option Message)) (js is : List Instance) (d : List ℕ) (b c : Option (ℕ × ℕ)) (s t : Past)

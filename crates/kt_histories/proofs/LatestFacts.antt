@@ -3,18 +3,19 @@ use Rattle.std.proofs.Common.{◌≡◌, ℕ, ◌-◌, ◌<◌, ◌≤◌, ◌==
 use Rattle.std.specs.Prelude.{IsTrue, ◌↔◌}
 use Rattle.std.specs.List.{slice_get, list_all}
 use Rattle.std.proofs.lemmas.Bool.Decides.{nat_tests}
-use Rattle.kt_cuts.specs.declared.deeds.Deed.{Deed}
-use Rattle.kt_cuts.specs.declared.deeds.Deed.TheVariants as deed
+use Rattle.kt_spacetime.specs.declared.deeds.Deed.{Deed}
+use Rattle.kt_spacetime.specs.declared.deeds.Deed.TheVariants as deed
 use Rattle.kt_histories.specs.declared.process.Process.{Process}
 use Rattle.kt_histories.specs.declared.tables.Message.{Message}
-use Rattle.kt_cuts.specs.Past.{Past}
-use Rattle.kt_cuts.specs.Legal.{has_deed, is_later, is_latest, is_undelivered}
-use Rattle.kt_cuts.specs.Lists.{received_in, last_of, NumbersRise}
-use Rattle.kt_cuts.specs.Tests.{is_after}
+use Rattle.kt_meaning.specs.Past.{Past}
+use Rattle.kt_meaning.specs.Legal.{has_deed, is_later, is_latest, is_undelivered}
+use Rattle.kt_rules.specs.Lists.{received_in, last_of, NumbersRise}
+use Rattle.kt_rules.specs.Tests.{is_after}
 use Rattle.kt_histories.specs.Standing.{ShowsProcess, ShowsMessages, message_at, sending, receiving}
-use Rattle.kt_cuts.proofs.SortedFacts.{some_same}
-use Rattle.kt_cuts.proofs.DeedFacts.{place_of_deed, has_at}
-use Rattle.kt_cuts.proofs.LatestFacts.{later_is_after}
+use Rattle.kt_meaning.proofs.Items.{some_same}
+use Rattle.kt_meaning.proofs.DeedFacts.{place_of_deed}
+use Rattle.kt_rules.proofs.DeedFacts.{has_at}
+use Rattle.kt_rules.proofs.LatestFacts.{later_is_after}
 
 pub latest_known : (v : Process) (s : Past) (p q m : ℕ) (d : Option ℕ) → ShowsProcess v s p → NumbersRise (received_in q (s.live p)) → NumbersRise (received_in q (s.dropped_since p)) → q < 64 → slice_get v.last_dropped q ≡ Some d
     → is_latest s p q m ≡ (is_after m (last_of (received_in q v.history)) && is_after m d)

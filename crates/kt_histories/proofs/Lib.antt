@@ -10,3 +10,14 @@ pub mod Shown
 pub mod Steps
 pub mod InstanceSteps
 pub mod RowRules
+pub mod Begun
+pub mod Delivered
+pub mod Demands
+pub mod FoundRows
+pub mod Gives
+pub mod InTransit
+pub mod KnownRows
+pub mod LastRows
+pub mod ReceivedRows
+pub mod Replaying
+pub mod TracedMessages

@@ -4,7 +4,7 @@ use Rattle.std.specs.List.{find, slice_get}
 use Rattle.std.specs.List.Sorted.{IsPartitionPoint, IsPartitionedBy}
 use Rattle.std.proofs.lemmas.Bool.{cases_eq}
 use Rattle.std.proofs.lemmas.Bool.Decides.{nat_tests}
-use Rattle.kt_cuts.specs.Lists.{NumbersRise}
+use Rattle.kt_rules.specs.Lists.{NumbersRise}
 
 -- where the numbers below a message end, its first follower stands
 pub find_from_point : (xs : List ℕ) (m i : ℕ) → IsPartitionPoint (λ x. nat_lt x m ≡ true) (λ x. nat_lt x m ≡ false) xs i → slice_get xs i ≡ find (nat_le m) xs

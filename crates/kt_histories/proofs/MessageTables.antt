@@ -7,7 +7,7 @@ use Rattle.kt_histories.specs.declared.tables.Message.{Message}
 use Rattle.kt_histories.specs.Tables.{with_received, with_dropped}
 use Rattle.std.proofs.lemmas.List.Elements.{Contains-push_cases}
 use Rattle.kt_histories.specs.Standing.{message_at, parties}
-use Rattle.kt_cuts.proofs.Items.{set_mapped, take_item}
+use Rattle.kt_meaning.proofs.Items.{set_mapped, take_item}
 
 pub marked_parties : (ms : List (Option Message)) (i : ℕ) (x y : Option Message) → i < length ms → x ≡ get_or ms i x → parties y ≡ parties x → map parties (set ms i y) ≡ map parties ms
 marked_parties ms i x y l e s = set_mapped parties ms i x y (slice_get_read ms (length ms) i x refl l e) s

@@ -6,25 +6,26 @@ use Rattle.std.proofs.lemmas.Bool.{cases_lt}
 use Rattle.std.proofs.lemmas.Bool.Decides.{nat_tests}
 use Rattle.std.proofs.lemmas.List.{take-append-drop, get_or-append-add}
 use Rattle.std.proofs.lemmas.Option.{slice_get_within, get_or_from_slice_get}
-use Rattle.kt_cuts.specs.declared.deeds.Deed.{Deed}
-use Rattle.kt_cuts.specs.declared.deeds.Deed.TheVariants as deed
+use Rattle.kt_spacetime.specs.declared.deeds.Deed.{Deed}
+use Rattle.kt_spacetime.specs.declared.deeds.Deed.TheVariants as deed
 use Rattle.kt_histories.specs.declared.tables.Message.{Message}
 use Rattle.kt_spacetime.specs.declared.event.Event.{Event}
 use Rattle.kt_histories.specs.declared.replay.Replay.{Replay}
 use Rattle.kt_histories.specs.declared.histories.Histories.{Histories}
 use Rattle.kt_histories.specs.HistoriesOf.{HistoriesOf}
-use Rattle.kt_cuts.specs.Past.{Past, past}
-use Rattle.kt_cuts.specs.Legal.{is_deed, has_deed}
-use Rattle.kt_cuts.specs.Cuts.{part, IsOrphan}
-use Rattle.kt_cuts.specs.Lists.{sent_in, received_in, NumbersRise}
-use Rattle.kt_cuts.specs.Traces.{place_of}
-use Rattle.kt_cuts.specs.Orphans.{IsOrphanBetween, IsAtMost, is_within}
+use Rattle.kt_meaning.specs.Past.{Past, past}
+use Rattle.kt_meaning.specs.Legal.{is_deed, has_deed}
+use Rattle.kt_meaning.specs.Cuts.{part, IsOrphan}
+use Rattle.kt_rules.specs.Lists.{sent_in, received_in, NumbersRise}
+use Rattle.kt_rules.specs.Traces.{place_of}
+use Rattle.kt_rules.specs.Orphans.{IsOrphanBetween, IsAtMost, is_within}
 use Rattle.kt_histories.specs.Standing.{ShowsMessages, ShowsPast, message_at, receiving}
-use Rattle.kt_cuts.proofs.Items.{get_in_take}
-use Rattle.kt_cuts.proofs.SortedFacts.{some_same, sent_more, received_more}
-use Rattle.kt_cuts.proofs.DeedFacts.{place_of_deed, has_at, received_source}
-use Rattle.kt_cuts.proofs.LatestFacts.{received_place}
-use Rattle.kt_cuts.proofs.OrphanFacts.{between_of, get_from_drop, orphan_of, received_of, rises_across, sent_place}
+use Rattle.kt_meaning.proofs.Items.{get_in_take, some_same, get_from_drop}
+use Rattle.kt_rules.proofs.SortedFacts.{sent_more, received_more}
+use Rattle.kt_meaning.proofs.DeedFacts.{place_of_deed}
+use Rattle.kt_rules.proofs.DeedFacts.{has_at, received_source}
+use Rattle.kt_rules.proofs.LatestFacts.{received_place}
+use Rattle.kt_rules.proofs.OrphanFacts.{between_of, orphan_of, received_of, rises_across, sent_place}
 
 pub rises_back : (xs ys : List ℕ) → NumbersRise (xs ++ ys) → NumbersRise ys
 rises_back xs ys r i j d low l =

@@ -4,13 +4,12 @@ use Rattle.std.specs.List.{slice_get, Contains}
 use Rattle.std.proofs.lemmas.Bool.{cases_eq}
 use Rattle.std.proofs.lemmas.List.{take-append-le, take_all, get_or-replicate, length-replicate}
 use Rattle.std.proofs.lemmas.Option.{slice_get_within, slice_get-get_or}
-use Rattle.kt_cuts.specs.declared.deeds.Deed.{Deed}
-use Rattle.kt_cuts.specs.declared.deeds.Deed.TheVariants as deed
+use Rattle.kt_spacetime.specs.declared.deeds.Deed.{Deed}
+use Rattle.kt_spacetime.specs.declared.deeds.Deed.TheVariants as deed
 use Rattle.kt_histories.specs.declared.process.Process.{Process}
-use Rattle.kt_cuts.specs.Past.{start}
+use Rattle.kt_meaning.specs.Past.{start}
 use Rattle.kt_histories.specs.Standing.{ShowsProcess}
-use Rattle.kt_cuts.proofs.Items.{get_left, get_seam}
-use Rattle.kt_cuts.proofs.SortedFacts.{some_same}
+use Rattle.kt_meaning.proofs.Items.{get_left, get_seam, some_same}
 
 -- a process before the first row
 pub shows_start : (v : Process) (p : ℕ) → v.history ≡ [] → v.permanent ≡ 0 → v.open_in ≡ None → v.up ≡ true → v.last_dropped ≡ replicate 64 None → ShowsProcess v start p

@@ -3,11 +3,11 @@ use Rattle.std.proofs.Common.{◌≡◌, ℕ, ◌+◌, ◌<◌, ◌∷◌, [], �
 use Rattle.std.proofs.lemmas.List.{map-append}
 use Rattle.kt_spacetime.specs.declared.event.Event.{Event}
 use Rattle.kt_histories.specs.declared.replay.Replay.{Replay}
-use Rattle.kt_cuts.specs.Past.{past, after}
-use Rattle.kt_cuts.specs.Legal.{broken_rule}
-use Rattle.kt_cuts.specs.Standing.{IsAllowed, parties_of_row}
+use Rattle.kt_meaning.specs.Past.{past, after}
+use Rattle.kt_meaning.specs.Legal.{broken_rule}
+use Rattle.kt_rules.specs.Standing.{IsAllowed, parties_of_row}
 use Rattle.kt_histories.specs.Standing.{ReplayStandsFor, ShowsPast, parties_shown}
-use Rattle.kt_cuts.proofs.LegalLogs.{past_push, rows_length}
+use Rattle.kt_meaning.proofs.LegalLogs.{past_push, rows_length}
 
 -- the rows before one more are as many as the messages kept
 pub next_number : (r : Replay) (rows : List Event) (i : ℕ) → i < length rows → ReplayStandsFor r (take i rows) → length r.messages.items + 1 ≡ i + 1

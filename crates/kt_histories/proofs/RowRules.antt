@@ -2,10 +2,10 @@
 use Rattle.std.proofs.Common.{◌≡◌, ℕ, ◌+◌, true, None}
 use Rattle.std.specs.Prelude.{◌&&◌, ◌||◌}
 use Rattle.kt_spacetime.specs.declared.event.Event.TheVariants.{Sent}
-use Rattle.kt_cuts.specs.Past.{Past}
-use Rattle.kt_cuts.specs.Legal.{is_in_none, broken_rule}
-use Rattle.kt_cuts.proofs.LegalLogs.{kept}
-use Rattle.kt_cuts.proofs.RowRules.{both, none_from}
+use Rattle.kt_meaning.specs.Past.{Past}
+use Rattle.kt_meaning.specs.Legal.{is_in_none, broken_rule}
+use Rattle.kt_meaning.proofs.LegalLogs.{kept}
+use Rattle.kt_meaning.proofs.RowRules.{both, none_from}
 
 -- a process that sends is up, and in no open instance
 pub record MaySend (s : Past) (p : ℕ) : Type 0 where

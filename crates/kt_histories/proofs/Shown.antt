@@ -5,16 +5,15 @@ use Rattle.std.specs.Option.{option_flatten}
 use Rattle.std.proofs.lemmas.Bool.{cases_lt, cases_eq}
 use Rattle.std.proofs.lemmas.List.{length-set}
 use Rattle.std.proofs.lemmas.Option.{slice_get_past}
-use Rattle.kt_cuts.specs.declared.deeds.Deed.{Deed}
-use Rattle.kt_cuts.specs.declared.deeds.Deed.TheVariants as deed
+use Rattle.kt_spacetime.specs.declared.deeds.Deed.{Deed}
+use Rattle.kt_spacetime.specs.declared.deeds.Deed.TheVariants as deed
 use Rattle.kt_histories.specs.declared.process.Process.{Process}
 use Rattle.kt_histories.specs.declared.tables.Message.{Message}
-use Rattle.kt_cuts.specs.Past.{Past}
-use Rattle.kt_cuts.specs.Lists.{sent_in}
+use Rattle.kt_meaning.specs.Past.{Past}
+use Rattle.kt_rules.specs.Lists.{sent_in}
 use Rattle.kt_histories.specs.Standing.{ShowsProcess, ShowsProcesses, ShowsMessages, message_at, sending, receiving}
-use Rattle.kt_cuts.proofs.Items.{get_left, get_seam, get_set_same, get_set_other}
-use Rattle.kt_cuts.proofs.SortedFacts.{some_same}
-use Rattle.kt_cuts.proofs.DeedFacts.{sent_source}
+use Rattle.kt_meaning.proofs.Items.{get_left, get_seam, get_set_same, get_set_other, some_same}
+use Rattle.kt_rules.proofs.DeedFacts.{sent_source}
 
 -- the processes with another one at a place
 pub processes_set : (ps : List Process) (s t : Past) (p : ℕ) (v : Process) → ShowsProcesses ps s → p < 64 → ShowsProcess v t p

@@ -5,12 +5,12 @@ use Rattle.std.proofs.lemmas.Bool.{cases_lt, cases_eq}
 use Rattle.std.proofs.lemmas.List.{append-nil, take-append-le, take-append-drop, length-set}
 use Rattle.std.proofs.lemmas.Option.{slice_get_within}
 use Rattle.std.proofs.Math.Seq.{take-append_seam}
-use Rattle.kt_cuts.specs.declared.deeds.Deed.{Deed}
-use Rattle.kt_cuts.specs.declared.deeds.Deed.TheVariants as deed
-use Rattle.kt_cuts.specs.Lists.{sent_in, received_in}
+use Rattle.kt_spacetime.specs.declared.deeds.Deed.{Deed}
+use Rattle.kt_spacetime.specs.declared.deeds.Deed.TheVariants as deed
+use Rattle.kt_rules.specs.Lists.{sent_in, received_in}
 use Rattle.kt_histories.specs.Sorted.{IsSorted}
-use Rattle.kt_cuts.proofs.Items.{get_left, get_right, get_seam, get_set_same, get_set_other}
-use Rattle.kt_cuts.proofs.SortedFacts.{received_at, received_else, received_more, received_unsent, sent_more, some_same}
+use Rattle.kt_meaning.proofs.Items.{get_left, get_right, get_seam, get_set_same, get_set_other, some_same}
+use Rattle.kt_rules.proofs.SortedFacts.{received_at, received_else, received_more, received_unsent, sent_more}
 
 -- lists with ends of one length have one front
 fronts : (xs ys x y : List ℕ) → xs ++ x ≡ ys ++ y → length x ≡ 1 → length y ≡ 1 → xs ≡ ys

@@ -5,24 +5,25 @@ use Rattle.std.proofs.lemmas.Bool.{cases_eq, and_parts}
 use Rattle.std.proofs.lemmas.List.{append-nil}
 use Rattle.std.proofs.lemmas.Option.{slice_get_within}
 use Rattle.kt_spacetime.specs.declared.event.Event.TheVariants as event
-use Rattle.kt_cuts.specs.declared.deeds.Deed.{Deed}
-use Rattle.kt_cuts.specs.declared.deeds.Deed.TheVariants as deed
+use Rattle.kt_spacetime.specs.declared.deeds.Deed.{Deed}
+use Rattle.kt_spacetime.specs.declared.deeds.Deed.TheVariants as deed
 use Rattle.kt_histories.specs.declared.process.Process.{Process}
 use Rattle.kt_histories.specs.declared.tables.Message.{Message}
-use Rattle.kt_cuts.specs.declared.instances.Instance.{Instance}
-use Rattle.kt_cuts.specs.Past.{Past, after, at_one}
-use Rattle.kt_cuts.specs.Legal.{has_deed, is_later, is_undelivered}
-use Rattle.kt_cuts.specs.Lists.{NumbersRise, last_of, sent_in, received_in}
+use Rattle.kt_rules.specs.declared.instances.Instance.{Instance}
+use Rattle.kt_meaning.specs.Past.{Past, after, at_one}
+use Rattle.kt_meaning.specs.Legal.{has_deed, is_later, is_undelivered}
+use Rattle.kt_rules.specs.Lists.{NumbersRise, last_of, sent_in, received_in}
 use Rattle.kt_histories.specs.Tables.{with_received, with_dropped}
-use Rattle.kt_cuts.specs.Standing.{IsAllowed}
+use Rattle.kt_rules.specs.Standing.{IsAllowed}
 use Rattle.kt_histories.specs.Standing.{Shows, ShowsMessages, message_at, sending, receiving, is_dropped}
-use Rattle.kt_cuts.proofs.Items.{get_push, get_set_same, get_set_other}
-use Rattle.kt_cuts.proofs.SortedFacts.{some_same, sent_more, received_at, received_else, received_unsent}
-use Rattle.kt_cuts.proofs.DeedFacts.{place_of_deed, has_at, has_front, received_source, rises_push, later_than, last_push}
-use Rattle.kt_cuts.proofs.LegalLogs.{kept}
-use Rattle.kt_cuts.proofs.Shown.{at_same, at_other}
+use Rattle.kt_meaning.proofs.Items.{get_push, get_set_same, get_set_other, some_same}
+use Rattle.kt_rules.proofs.SortedFacts.{sent_more, received_at, received_else, received_unsent}
+use Rattle.kt_meaning.proofs.DeedFacts.{place_of_deed}
+use Rattle.kt_rules.proofs.DeedFacts.{has_at, has_front, received_source, rises_push, later_than, last_push}
+use Rattle.kt_meaning.proofs.LegalLogs.{kept}
+use Rattle.kt_meaning.proofs.Shown.{at_same, at_other}
 use Rattle.kt_histories.proofs.Shown.{processes_set, old_message, new_message, no_message, quiet_message, kept_sending, kept_receiving, sent_before}
-use Rattle.kt_cuts.proofs.Steps.{each_history}
+use Rattle.kt_rules.proofs.Steps.{each_history}
 
 -- the deeds of a history with one more
 more_or_same : (p q i : ℕ) (l : List Deed) (f : ℕ → List Deed) (d x : Deed) → l ≡ f p → slice_get (at_one p (l ++ x ∷ []) f q) i ≡ Some d

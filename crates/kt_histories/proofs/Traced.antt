@@ -4,20 +4,20 @@ use Rattle.std.specs.List.{slice_get}
 use Rattle.std.specs.Option.{option_flatten}
 use Rattle.std.proofs.lemmas.Option.{slice_get-map}
 use Rattle.kt_spacetime.specs.declared.event.Event.{Event}
-use Rattle.kt_cuts.specs.declared.deeds.Deed.{Deed}
-use Rattle.kt_cuts.specs.declared.deeds.Deed.TheVariants as deed
+use Rattle.kt_spacetime.specs.declared.deeds.Deed.{Deed}
+use Rattle.kt_spacetime.specs.declared.deeds.Deed.TheVariants as deed
 use Rattle.kt_histories.specs.declared.process.Process.{Process}
 use Rattle.kt_histories.specs.declared.tables.Message.{Message}
-use Rattle.kt_cuts.specs.Past.{Past, past}
-use Rattle.kt_cuts.specs.Legal.{has_deed}
-use Rattle.kt_cuts.specs.Messages.{row_at}
-use Rattle.kt_cuts.specs.Traces.{place_of, trace_between, trace_of}
-use Rattle.kt_cuts.specs.Standing.{parties_of_row}
+use Rattle.kt_meaning.specs.Past.{Past, past}
+use Rattle.kt_meaning.specs.Legal.{has_deed}
+use Rattle.kt_meaning.specs.Messages.{row_at}
+use Rattle.kt_rules.specs.Traces.{place_of, trace_between, trace_of}
+use Rattle.kt_rules.specs.Standing.{parties_of_row}
 use Rattle.kt_histories.specs.Standing.{ShowsProcess, ShowsMessages, message_at, sending, receiving, parties}
-use Rattle.kt_cuts.proofs.SortedFacts.{some_same}
-use Rattle.kt_cuts.proofs.DeedFacts.{has_at}
+use Rattle.kt_meaning.proofs.Items.{some_same}
+use Rattle.kt_rules.proofs.DeedFacts.{has_at}
 use Rattle.kt_histories.proofs.LatestFacts.{live_there, receive_there}
-use Rattle.kt_cuts.proofs.Traced.{place_at, place_none}
+use Rattle.kt_rules.proofs.Traced.{place_at, place_none}
 
 absent : (d : Deed) (l : List Deed) → has_deed d l ≡ false → (i : ℕ) → slice_get l i ≡ Some d → ⊥
 absent d l never i e =

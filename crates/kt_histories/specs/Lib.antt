@@ -1,8 +1,11 @@
-pub use Rattle.kt_cuts.specs.Past
-pub use Rattle.kt_cuts.specs.Legal
-pub use Rattle.kt_cuts.specs.Cuts
-pub use Rattle.kt_cuts.specs.Traces
+pub use Rattle.kt_meaning.specs.Past
+pub use Rattle.kt_meaning.specs.Legal
+pub use Rattle.kt_meaning.specs.Cuts
+pub use Rattle.kt_rules.specs.Traces
 pub mod Sorted
 pub mod Standing
 pub mod Tables
 pub mod HistoriesOf
+pub mod Breaches
+pub mod Demands
+pub mod Finding

@@ -1,7 +1,7 @@
 -- What a history keeps beside its deeds.
 use Rattle.std.specs.Prelude.{◌≡◌, ℕ, ◌<◌, Some, List, length, take, slice_get}
-use Rattle.kt_cuts.specs.declared.deeds.Deed.{Deed}
-use Rattle.kt_cuts.specs.Lists.{sent_in, received_in}
+use Rattle.kt_spacetime.specs.declared.deeds.Deed.{Deed}
+use Rattle.kt_rules.specs.Lists.{sent_in, received_in}
 
 -- the deeds sorted: how many sends there are before each, the sends in order, the receives by sender
 pub record IsSorted (deeds : List Deed) (counts sends : List ℕ) (receives : List (List ℕ)) : Type 0 where

@@ -2,15 +2,15 @@
 use Rattle.std.specs.Prelude.{◌≡◌, ℕ, ◌<◌, ◌≤◌, ◌&&◌, if◌then◌else◌, Bool, false, Option, Some, None, option_map, List, [], length, map, slice_get, Contains}
 use Rattle.std.specs.Option.{option_flatten}
 use Rattle.kt_spacetime.specs.declared.event.Event.{Event}
-use Rattle.kt_cuts.specs.declared.deeds.Deed.TheVariants as deed
+use Rattle.kt_spacetime.specs.declared.deeds.Deed.TheVariants as deed
 use Rattle.kt_histories.specs.declared.process.Process.{Process}
 use Rattle.kt_histories.specs.declared.tables.Message.{Message}
-use Rattle.kt_cuts.specs.declared.instances.Instance.{Instance}
+use Rattle.kt_rules.specs.declared.instances.Instance.{Instance}
 use Rattle.kt_histories.specs.declared.replay.Replay.{Replay}
-use Rattle.kt_cuts.specs.Past.{Past, past}
-use Rattle.kt_cuts.specs.Legal.{has_deed}
-use Rattle.kt_cuts.specs.Lists.{last_of, received_in}
-use Rattle.kt_cuts.specs.Standing.{IsInOrder, ShowsInstances, at_number, beginning_of_row, parties_of_row}
+use Rattle.kt_meaning.specs.Past.{Past, past}
+use Rattle.kt_meaning.specs.Legal.{has_deed}
+use Rattle.kt_rules.specs.Lists.{last_of, received_in}
+use Rattle.kt_rules.specs.Standing.{IsInOrder, ShowsInstances, at_number, beginning_of_row, parties_of_row}
 
 abbrev pub message_at : List (Option Message) → ℕ → Option Message
 message_at messages msg = option_flatten (at_number messages msg)

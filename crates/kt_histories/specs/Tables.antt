@@ -2,7 +2,7 @@
 use Rattle.std.specs.Prelude.{ℕ, if◌then◌else◌, true, Option, Some, None, take, slice_index_or}
 use Rattle.kt_base.specs.Sets.{has}
 use Rattle.kt_histories.specs.declared.process.Process.{Process}
-use Rattle.kt_cuts.specs.declared.instances.Instance.{Instance}
+use Rattle.kt_rules.specs.declared.instances.Instance.{Instance}
 use Rattle.kt_histories.specs.declared.tables.Message.{Message}
 
 -- a member's new position is its permanent one

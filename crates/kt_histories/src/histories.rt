@@ -2,14 +2,14 @@
 
 ghost use Rattle.std.specs.Prelude.{◌≡◌, ◌≤◌, ◌<◌, ◌+◌, ◌^◌, ◌++◌, ◌∷◌, [], ℕ, List, length, vec_len, take, IfOk, OnOk};
 ghost use Rattle.kt_spacetime.specs.declared.event.Event.{Event};
-ghost use Rattle.kt_cuts.specs.Past.{Past, past};
-ghost use Rattle.kt_cuts.specs.Legal.{IsLegal, is_undelivered};
+ghost use Rattle.kt_meaning.specs.Past.{Past, past};
+ghost use Rattle.kt_meaning.specs.Legal.{IsLegal, is_undelivered};
 
 use crate::replay::Replay;
 use crate::tables::Message;
 use kt_base::{InstNo, Kind, Memory, MsgNo, ProcNo};
-use kt_cuts::{Deed, Trace};
-use kt_spacetime::{Event, SpaceTime};
+use kt_rules::Trace;
+use kt_spacetime::{Deed, Event, SpaceTime};
 use std::alloc::Global;
 
 /// The live histories and positions after the first rows of a legal log.
@@ -22,7 +22,7 @@ pub struct Histories {
 
 impl Histories {
     ghost use Rattle.kt_histories.specs.HistoriesOf.{HistoriesOf};
-    ghost use Rattle.kt_cuts.specs.Traces.{trace_of, place_of};
+    ghost use Rattle.kt_rules.specs.Traces.{trace_of, place_of};
 
     /// Those after the first `upto` rows.
     pub fn of(alloc: Global, log: &SpaceTime, upto: usize) -> Result<Histories, Memory>
@@ -115,9 +115,9 @@ impl Histories {
 }
 
 impl Replay {
-    ghost use Rattle.kt_cuts.specs.declared.deeds.Deed.TheVariants as deed;
+    ghost use Rattle.kt_spacetime.specs.declared.deeds.Deed.TheVariants as deed;
     ghost use Rattle.kt_histories.specs.Standing.{ShowsPast, message_at};
-    ghost use Rattle.kt_cuts.specs.Traces.{place_of};
+    ghost use Rattle.kt_rules.specs.Traces.{place_of};
 
     // The place of a message's send in its sender's history, counted from 1.
     pub(crate) fn sent_place(&self, msg: MsgNo, message: &Message) -> Option<usize>

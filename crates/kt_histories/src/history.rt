@@ -1,12 +1,12 @@
 //! The live history of a process, with what it has of one kind of deed.
 
 ghost use Rattle.std.specs.Prelude.{◌≡◌, ◌≤◌, ◌<◌, ◌++◌, ◌∷◌, [], nat_le, find, length, drop, slice_get, option_to_list, OnOk, IfOk, IfNone, IsTrue, ◌↔◌, Some, None, ◌+◌};
-ghost use Rattle.kt_cuts.specs.declared.deeds.Deed.TheVariants as deed;
-ghost use Rattle.kt_cuts.specs.Lists.{last_of, NumbersRise, sent_in, received_in};
+ghost use Rattle.kt_spacetime.specs.declared.deeds.Deed.TheVariants as deed;
+ghost use Rattle.kt_rules.specs.Lists.{last_of, NumbersRise, sent_in, received_in};
 
 use crate::messages::Messages;
 use kt_base::{Memory, MsgNo, ProcNo};
-use kt_cuts::Deed;
+use kt_spacetime::Deed;
 use std::alloc::Global;
 use std::marker::Model;
 
@@ -26,7 +26,7 @@ pub(crate) struct History {
 
 impl Model for History {
     ghost use Rattle.std.specs.Prelude.{List};
-    ghost use Rattle.kt_cuts.specs.declared.deeds.Deed.{Deed};
+    ghost use Rattle.kt_spacetime.specs.declared.deeds.Deed.{Deed};
 
     ghost Value = { List Deed };
 

@@ -2,17 +2,17 @@
 
 ghost use Rattle.std.specs.Prelude.{◌≡◌, ◌<◌, ◌^◌, ◌==◌, ◌&&◌, ◌||◌, not, is_none, is_some, ℕ, true, Option, Some, None, Err, vec_len, OnOk, find};
 ghost use Rattle.kt_base.specs.declared.words.Kind.{Kind};
-ghost use Rattle.kt_cuts.specs.declared.rules.Rule.{Rule};
-ghost use Rattle.kt_cuts.specs.declared.legality.LegalFault.TheVariants as fault;
-ghost use Rattle.kt_cuts.specs.Legal.{IsLegal, first_broken};
-ghost use Rattle.kt_cuts.specs.Tests.{is_after};
+ghost use Rattle.kt_spacetime.specs.declared.rules.Rule.{Rule};
+ghost use Rattle.kt_rules.specs.declared.legality.LegalFault.TheVariants as fault;
+ghost use Rattle.kt_meaning.specs.Legal.{IsLegal, first_broken};
+ghost use Rattle.kt_rules.specs.Tests.{is_after};
 
 use crate::replay::Replay;
 use crate::tables::Message;
 use kt_base::{MsgNo, ProcNo, RowNo};
-use kt_cuts::rule_context::RuleContext;
-use kt_cuts::{Deed, LegalFault, Rule, is_after};
-use kt_spacetime::{Event, SpaceTime};
+use kt_rules::rule_context::RuleContext;
+use kt_rules::{LegalFault, is_after};
+use kt_spacetime::{Deed, Event, Rule, SpaceTime};
 use std::alloc::Global;
 
 /// Whether the rows of a log keep the rules of a legal log; else the first row that breaks one, and the least rule
@@ -33,11 +33,11 @@ pub fn legal(alloc: Global, log: &SpaceTime) -> Result<(), LegalFault>
 }
 
 impl Replay {
-    ghost use Rattle.kt_cuts.specs.Past.{Past};
-    ghost use Rattle.kt_cuts.specs.Legal.{broken_rule, keeps_message, keeps_order, is_undelivered, is_latest, has_deed};
-    ghost use Rattle.kt_cuts.specs.RuleContext.{ShowsRuleContext};
+    ghost use Rattle.kt_meaning.specs.Past.{Past};
+    ghost use Rattle.kt_meaning.specs.Legal.{broken_rule, keeps_message, keeps_order, is_undelivered, is_latest, has_deed};
+    ghost use Rattle.kt_rules.specs.RuleContext.{ShowsRuleContext};
     ghost use Rattle.kt_histories.specs.Standing.{ShowsPast, message_at};
-    ghost use Rattle.kt_cuts.specs.declared.deeds.Deed.TheVariants as deed;
+    ghost use Rattle.kt_spacetime.specs.declared.deeds.Deed.TheVariants as deed;
 
     /// The least rule that the next row would break.
     pub(crate) fn broken_rule(&self, row: &Event) -> Option<Rule>

@@ -18,6 +18,8 @@
 //! `replay.rt`; rules of messages `legality.rt`; answers `histories.rt`, `orphans.rt`.
 #![tactic(auto)]
 
+pub mod breach;
+pub mod finding;
 mod histories;
 mod history;
 mod legality;
@@ -26,6 +28,9 @@ mod orphans;
 mod process;
 mod replay;
 mod tables;
+pub mod undoing;
+pub mod waiting;
+pub mod words;
 
 pub use histories::Histories;
 pub use legality::legal;

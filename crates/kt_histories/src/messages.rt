@@ -1,7 +1,7 @@
 //! Lists of messages.
 
 ghost use Rattle.std.specs.Prelude.{◌≡◌, ◌++◌, ◌∷◌, [], nat_le, nat_lt, find, slice_get, option_to_list, OnOk, OnErr, IfOk, IfNone, All, length};
-ghost use Rattle.kt_cuts.specs.Lists.{last_of, NumbersRise};
+ghost use Rattle.kt_rules.specs.Lists.{last_of, NumbersRise};
 
 use kt_base::{Memory, MsgNo};
 use std::alloc::Global;

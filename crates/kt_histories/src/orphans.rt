@@ -2,17 +2,17 @@
 
 ghost use Rattle.std.specs.Prelude.{◌≡◌, ◌≤◌, ◌<◌, ◌↔◌, ◌==◌, ℕ, true, if◌then◌else◌, Some, None, List, Contains, IsTrue, IfSome, IfNone, find, nat_le, slice_index, slice_get};
 ghost use Rattle.kt_spacetime.specs.declared.event.Event.{Event};
-ghost use Rattle.kt_cuts.specs.declared.deeds.Deed.TheVariants as deed;
-ghost use Rattle.kt_cuts.specs.Past.{Past, past};
-ghost use Rattle.kt_cuts.specs.Legal.{has_deed};
-ghost use Rattle.kt_cuts.specs.Cuts.{IsOrphan};
-ghost use Rattle.kt_cuts.specs.Orphans.{IsOrphanBetween, IsAtMost, earlier, is_within};
+ghost use Rattle.kt_spacetime.specs.declared.deeds.Deed.TheVariants as deed;
+ghost use Rattle.kt_meaning.specs.Past.{Past, past};
+ghost use Rattle.kt_meaning.specs.Legal.{has_deed};
+ghost use Rattle.kt_meaning.specs.Cuts.{IsOrphan};
+ghost use Rattle.kt_rules.specs.Orphans.{IsOrphanBetween, IsAtMost, earlier, is_within};
 
 use crate::histories::Histories;
 use crate::replay::Replay;
 use kt_base::{MsgNo, ProcNo};
-use kt_cuts::Cut;
-use kt_cuts::orphans::{earlier, if_wanted, is_within};
+use kt_rules::Cut;
+use kt_rules::orphans::{earlier, if_wanted, is_within};
 
 impl Histories {
     ghost use Rattle.kt_histories.specs.HistoriesOf.{HistoriesOf};

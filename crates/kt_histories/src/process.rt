@@ -1,14 +1,14 @@
 //! A process, after the rows so far.
 
 ghost use Rattle.std.specs.Prelude.{◌≡◌, ℕ, ◌<◌, ◌≤◌, None, [], take, length, replicate, slice_get, slice_set, IfOk, OnOk, Contains, true, ◌||◌, if◌then◌else◌};
-ghost use Rattle.kt_cuts.specs.declared.deeds.Deed.TheVariants as deed;
-ghost use Rattle.kt_cuts.specs.Past.{start};
+ghost use Rattle.kt_spacetime.specs.declared.deeds.Deed.TheVariants as deed;
+ghost use Rattle.kt_meaning.specs.Past.{start};
 ghost use Rattle.kt_histories.specs.Standing.{ShowsProcesses};
 
 use crate::history::History;
 use crate::messages::Messages;
 use kt_base::{InstNo, Memory, MsgNo, ProcNo};
-use kt_cuts::Deed;
+use kt_spacetime::Deed;
 use std::alloc::Global;
 
 /// A process, after the rows so far.

@@ -10,7 +10,7 @@ use crate::tables::{
     Message, add_undone_received, make_permanent, mark_dropped, mark_received, roll_back,
 };
 use kt_base::{InstNo, Kind, Memory, MsgNo, ProcNo, ProcSet};
-use kt_cuts::instances::{Instance, decide, join};
+use kt_rules::instances::{Instance, decide, join};
 use kt_spacetime::Event;
 use std::alloc::Global;
 
@@ -30,8 +30,8 @@ pub(crate) struct Replay {
 }
 
 impl Replay {
-    ghost use Rattle.kt_cuts.specs.Past.{Past, start, after};
-    ghost use Rattle.kt_cuts.specs.Standing.{IsAllowed, parties_of_row, at_number, rolled_back_shown};
+    ghost use Rattle.kt_meaning.specs.Past.{Past, start, after};
+    ghost use Rattle.kt_rules.specs.Standing.{IsAllowed, parties_of_row, at_number, rolled_back_shown};
     ghost use Rattle.kt_histories.specs.Standing.{ShowsPast, ReplayStandsFor, parties_shown, message_at};
 
     /// What is known before the first row.

@@ -2,14 +2,14 @@
 
 ghost use Rattle.std.specs.Prelude.{◌≡◌, ◌≢◌, ◌<◌, ◌≤◌, ◌+◌, ℕ, true, if◌then◌else◌, Some, None, Option, length, take, map, slice_get, slice_index_or, Contains, OnOk};
 ghost use Rattle.kt_base.specs.Sets.{has};
-ghost use Rattle.kt_cuts.specs.declared.deeds.Deed.TheVariants as deed;
+ghost use Rattle.kt_spacetime.specs.declared.deeds.Deed.TheVariants as deed;
 ghost use Rattle.kt_histories.specs.declared.process.Process.{Process};
 
 use crate::messages::Messages;
 use crate::process::Process;
 use kt_base::{Memory, MsgNo, ProcNo};
-use kt_cuts::Deed;
-use kt_cuts::instances::Instance;
+use kt_rules::instances::Instance;
+use kt_spacetime::Deed;
 
 /// A message, from its `sent` row on. Places in a history count from 0 here.
 #[derive(Clone, Copy)]

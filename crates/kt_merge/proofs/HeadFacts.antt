@@ -3,7 +3,7 @@ use Rattle.std.proofs.Common.{◌≡◌, ◌<◌, ◌≤◌, ◌+◌, ◌⊎◌,
 use Rattle.std.specs.List.{slice_get}
 use Rattle.std.proofs.lemmas.Bool.{cases_lt, cases_eq}
 use Rattle.std.proofs.lemmas.Option.{slice_get_within}
-use Rattle.kt_part_text.specs.declared.rows.PartRow.{PartRow}
+use Rattle.kt_merge.specs.declared.part_rows.PartRow.{PartRow}
 use Rattle.kt_merge.specs.Heads.{IsLeastHead, HasNoHead, IsBestTo}
 
 abbrev Heads : Type 0

@@ -4,12 +4,12 @@ use Rattle.std.specs.Prelude.{All, ◌==◌}
 use Rattle.std.proofs.lemmas.List.{map-append, append-nil, append_cancel_left}
 use Rattle.std.proofs.lemmas.List.Elements.{filter-append}
 use Rattle.kt_text.proofs.FieldFacts.{first_and_rest}
-use Rattle.kt_part_text.specs.declared.rows.PartRow.{PartRow}
-use Rattle.kt_part_text.specs.Spelling.{part_spelling}
-use Rattle.kt_part_text.specs.Texts.{IsSpellable, IsPartFrom, clock_after, IsPartText, BeginsPart, SaysRow}
-use Rattle.kt_part_text.specs.Reading.{PartRead, StepsPart}
-use Rattle.kt_part_text.proofs.SpellingFacts.{one_row}
-use Rattle.kt_part_text.proofs.GatherFacts.{GathersPart, BeginsKnown, gathers_more, gathered_all}
+use Rattle.kt_merge.specs.declared.part_rows.PartRow.{PartRow}
+use Rattle.kt_merge.specs.Spelling.{part_spelling}
+use Rattle.kt_merge.specs.Texts.{IsSpellable, IsPartFrom, clock_after, IsPartText, BeginsPart, SaysRow}
+use Rattle.kt_merge.specs.Reading.{PartRead, StepsPart}
+use Rattle.kt_merge.proofs.SpellingFacts.{one_row}
+use Rattle.kt_merge.proofs.GatherFacts.{GathersPart, BeginsKnown, gathers_more, gathered_all}
 use Rattle.kt_merge.specs.Heads.{IsNotLater}
 use Rattle.kt_merge.specs.Merging.{Records, rows_of, SaysNext, GoesOn}
 use Rattle.kt_merge.proofs.OneMerge.{of_it, of_other}

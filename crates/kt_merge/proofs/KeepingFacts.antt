@@ -6,11 +6,10 @@ use Rattle.std.proofs.lemmas.Bool.{cases_eq}
 use Rattle.std.proofs.lemmas.List.{length-set}
 use Rattle.std.proofs.lemmas.Option.{slice_get_within}
 use Rattle.kt_base.specs.declared.words.Kind.{Kind}
-use Rattle.kt_cuts.proofs.Items.{get_set_same, get_set_other}
-use Rattle.kt_cuts.proofs.Shown.{at_same, at_other}
-use Rattle.kt_cuts.proofs.SortedFacts.{some_same}
+use Rattle.kt_meaning.proofs.Items.{get_set_same, get_set_other, some_same}
+use Rattle.kt_meaning.proofs.Shown.{at_same, at_other}
 use Rattle.kt_spacetime.specs.declared.event.Event.TheVariants.{Sent, Began}
-use Rattle.kt_names.specs.Names.{Given, given_after}
+use Rattle.kt_meaning.specs.Names.{Given, given_after}
 use Rattle.kt_merge.specs.declared.tables.Gave.{Gave}
 use Rattle.kt_merge.specs.Numbering.{ShowsProcess, ShowsTables}
 

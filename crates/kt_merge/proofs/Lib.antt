@@ -1,3 +1,10 @@
+pub mod FieldLists
+pub mod NameFacts
+pub mod SpellingFacts
+pub mod TextFacts
+pub mod GatherFacts
+pub mod WritingFacts
+pub mod StepFacts
 pub mod HeadFacts
 pub mod OneMerge
 pub mod NumberingFacts

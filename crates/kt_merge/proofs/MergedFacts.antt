@@ -7,16 +7,15 @@ use Rattle.std.proofs.lemmas.List.{map-append, length-set}
 use Rattle.std.proofs.lemmas.List.Elements.{All-nil, All-push, All-weaker, All-get_or}
 use Rattle.std.proofs.lemmas.List.Quantifiers.{all_pairs_push}
 use Rattle.std.proofs.lemmas.Option.{slice_get_within}
-use Rattle.kt_cuts.proofs.Items.{item_there, get_set_same, get_set_other}
-use Rattle.kt_cuts.proofs.SortedFacts.{some_same}
+use Rattle.kt_meaning.proofs.Items.{item_there, get_set_same, get_set_other, some_same}
 use Rattle.kt_spacetime.specs.declared.event.Event.{Event}
-use Rattle.kt_names.specs.declared.rows.NamedRow.{NamedRow}
-use Rattle.kt_names.specs.Names.{Given, nothing_given, given_after, given_by, numbered_event, numbered_from, numbered}
-use Rattle.kt_names.proofs.NumberedFacts.{numbers_first, numbered_more}
-use Rattle.kt_part_text.specs.declared.rows.PartRow.{PartRow}
-use Rattle.kt_part_text.specs.Texts.{clock_after, IsPartText, BeginsPart}
-use Rattle.kt_part_text.specs.Reading.{PartRead, part_unread, GivesPartRow, StepsPart}
-use Rattle.kt_part_text.proofs.GatherFacts.{GathersPart, BeginsKnown, clock_push, gathers_none}
+use Rattle.kt_spacetime.specs.declared.named_rows.NamedRow.{NamedRow}
+use Rattle.kt_meaning.specs.Names.{Given, nothing_given, given_after, given_by, numbered_event, numbered_from, numbered}
+use Rattle.kt_meaning.proofs.NumberedFacts.{numbers_first, numbered_more}
+use Rattle.kt_merge.specs.declared.part_rows.PartRow.{PartRow}
+use Rattle.kt_merge.specs.Texts.{clock_after, IsPartText, BeginsPart}
+use Rattle.kt_merge.specs.Reading.{PartRead, part_unread, GivesPartRow, StepsPart}
+use Rattle.kt_merge.proofs.GatherFacts.{GathersPart, BeginsKnown, clock_push, gathers_none}
 use Rattle.kt_merge.specs.Heads.{IsNotLater, IsLeastHead, HasNoHead, GiveHeads}
 use Rattle.kt_merge.specs.Merging.{Records, ArePartsUnread, IsPartOf, rows_of, without_clocks, AreSorted, IsMergeOf, SaysNext, BeginsMerge}
 use Rattle.kt_merge.proofs.HeldFacts.{more_of, same_of, not_later, before_by, one_left, HoldsHead, head_held, LeftBy, left_by, begins_by, before_left}

@@ -11,10 +11,10 @@ use Rattle.kt_text.specs.Writing.{line_of, text_of, Sends, WritesFront}
 use Rattle.kt_text.proofs.PieceFacts.{sends_more, sends_rest, text_more, front_none, front_after, front_last, starts}
 use Rattle.kt_log_text.specs.Spelling.{spelling}
 use Rattle.kt_log_text.specs.Texts.{header}
-use Rattle.kt_names.specs.Names.{Given, nothing_given, given_after, given_by, numbered_event}
-use Rattle.kt_part_text.specs.declared.fault.PartFault.{PartFault}
-use Rattle.kt_part_text.specs.declared.rows.PartRow.{PartRow}
-use Rattle.kt_part_text.specs.Reading.{PartRead, MeetsPartFault, StepsPart}
+use Rattle.kt_meaning.specs.Names.{Given, nothing_given, given_after, given_by, numbered_event}
+use Rattle.kt_merge.specs.declared.part_fault.PartFault.{PartFault}
+use Rattle.kt_merge.specs.declared.part_rows.PartRow.{PartRow}
+use Rattle.kt_merge.specs.Reading.{PartRead, MeetsPartFault, StepsPart}
 use Rattle.kt_merge.specs.declared.fault.MergeFault.{MergeFault}
 use Rattle.kt_merge.specs.declared.fault.MergeFault.TheVariants as merge
 use Rattle.kt_merge.specs.declared.fault.RowFault.{RowFault}

@@ -3,12 +3,12 @@ use Rattle.std.proofs.Common.{◌≡◌, ◌∙◌, ◌+◌, ◌==◌, ℕ, Bool
 use Rattle.std.specs.Prelude.{◌&&◌}
 use Rattle.std.specs.List.{slice_get}
 use Rattle.kt_base.specs.declared.words.Kind.{Kind}
-use Rattle.kt_cuts.proofs.Items.{get_push}
+use Rattle.kt_meaning.proofs.Items.{get_push}
 use Rattle.kt_spacetime.specs.declared.event.Event.TheVariants.{Began}
-use Rattle.kt_names.specs.declared.names.InstName.{InstName}
-use Rattle.kt_names.specs.declared.rows.NamedEvent.TheVariants as own
-use Rattle.kt_names.specs.Names.{Given, numbered_event}
-use Rattle.kt_names.proofs.PlaceFacts.{same_test}
+use Rattle.kt_spacetime.specs.declared.names.InstName.{InstName}
+use Rattle.kt_spacetime.specs.declared.named_rows.NamedEvent.TheVariants as own
+use Rattle.kt_meaning.specs.Names.{Given, numbered_event}
+use Rattle.kt_meaning.proofs.PlaceFacts.{same_test}
 use Rattle.kt_merge.specs.declared.tables.Gave.{Gave}
 
 -- an instance with the next name of its initiator has the next number

@@ -5,10 +5,10 @@ use Rattle.std.specs.List.{slice_get}
 use Rattle.std.proofs.lemmas.Bool.{cases_eq, cases_lt}
 use Rattle.std.proofs.lemmas.List.Elements.{All-head, All-tail}
 use Rattle.std.proofs.lemmas.Option.{slice_get_within, get_or_from_slice_get}
-use Rattle.kt_names.proofs.PlaceFacts.{same_test, tested}
-use Rattle.kt_part_text.specs.declared.rows.PartRow.{PartRow}
-use Rattle.kt_part_text.specs.Reading.{PartRead}
-use Rattle.kt_part_text.proofs.TextFacts.{one_part}
+use Rattle.kt_meaning.proofs.PlaceFacts.{same_test, tested}
+use Rattle.kt_merge.specs.declared.part_rows.PartRow.{PartRow}
+use Rattle.kt_merge.specs.Reading.{PartRead}
+use Rattle.kt_merge.proofs.TextFacts.{one_part}
 use Rattle.kt_merge.specs.Heads.{IsNotLater}
 use Rattle.kt_merge.specs.Merging.{AreKnown, rows_of, IsMergeOf}
 

@@ -1,7 +1,7 @@
 -- Parts of which none was read.
 use Rattle.std.proofs.Common.{◌≡◌, ◌∙◌, ℕ, Option, List, [], ◌∷◌, ◌++◌, length, sym, ap, inl, inr}
-use Rattle.kt_cuts.proofs.Items.{get_push}
-use Rattle.kt_part_text.specs.Reading.{PartRead, part_unread}
+use Rattle.kt_meaning.proofs.Items.{get_push}
+use Rattle.kt_merge.specs.Reading.{PartRead, part_unread}
 use Rattle.kt_merge.specs.Merging.{ArePartsUnread}
 
 pub unread_push : (parts : List PartRead) (part : PartRead) (source : Option (List ℕ)) → ArePartsUnread parts → part ≡ part_unread (length parts) source → ArePartsUnread (parts ++ part ∷ [])

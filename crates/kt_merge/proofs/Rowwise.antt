@@ -2,10 +2,10 @@
 use Rattle.std.proofs.Common.{◌≡◌, ◌∙◌, ℕ, Bool, true, false, Option, Some, List, [], ◌∷◌, map, refl, sym, ap}
 use Rattle.std.specs.Prelude.{◌==◌, cond, filter}
 use Rattle.kt_spacetime.specs.declared.event.Event.{Event}
-use Rattle.kt_names.specs.declared.rows.NamedRow.{NamedRow}
-use Rattle.kt_names.specs.Names.{named, numbered}
-use Rattle.kt_part_text.specs.declared.rows.PartRow.{PartRow}
-use Rattle.kt_part_text.specs.Reading.{PartRead}
+use Rattle.kt_spacetime.specs.declared.named_rows.NamedRow.{NamedRow}
+use Rattle.kt_meaning.specs.Names.{named, numbered}
+use Rattle.kt_merge.specs.declared.part_rows.PartRow.{PartRow}
+use Rattle.kt_merge.specs.Reading.{PartRead}
 use Rattle.kt_merge.specs.Merging.{IsRowwise, WritesMerge, rows_of, without_clocks}
 
 kept_or_not : (b : Bool) (x : PartRow) (rows : List PartRow) → without_clocks (cond b (x ∷ rows) rows) ≡ cond b (x.row ∷ without_clocks rows) (without_clocks rows)

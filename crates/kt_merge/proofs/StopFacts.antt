@@ -3,15 +3,14 @@ use Rattle.std.proofs.Common.{◌≡◌, ◌≢◌, ◌∙◌, ◌<◌, ◌≤�
 use Rattle.std.specs.List.{slice_get}
 use Rattle.std.proofs.lemmas.List.{length-set}
 use Rattle.std.proofs.lemmas.Option.{slice_get_within}
-use Rattle.kt_cuts.proofs.Items.{item_there, get_push, get_set_same, get_set_other}
-use Rattle.kt_cuts.proofs.SortedFacts.{some_same}
+use Rattle.kt_meaning.proofs.Items.{item_there, get_push, get_set_same, get_set_other, some_same}
 use Rattle.kt_spacetime.specs.declared.event.Event.{Event}
-use Rattle.kt_names.specs.Names.{nothing_given, given_by}
-use Rattle.kt_part_text.specs.declared.fault.PartFault.{PartFault}
-use Rattle.kt_part_text.specs.declared.rows.PartRow.{PartRow}
-use Rattle.kt_part_text.specs.Texts.{clock_after, BeginsPart, IsPartFaultFrom}
-use Rattle.kt_part_text.specs.Reading.{PartRead, MeetsPartFault, StepsPart}
-use Rattle.kt_part_text.proofs.GatherFacts.{GathersPart}
+use Rattle.kt_meaning.specs.Names.{nothing_given, given_by}
+use Rattle.kt_merge.specs.declared.part_fault.PartFault.{PartFault}
+use Rattle.kt_merge.specs.declared.part_rows.PartRow.{PartRow}
+use Rattle.kt_merge.specs.Texts.{clock_after, BeginsPart, IsPartFaultFrom}
+use Rattle.kt_merge.specs.Reading.{PartRead, MeetsPartFault, StepsPart}
+use Rattle.kt_merge.proofs.GatherFacts.{GathersPart}
 use Rattle.kt_merge.specs.declared.fault.MergeFault.TheVariants as merge
 use Rattle.kt_merge.specs.declared.fault.RowFault.{RowFault}
 use Rattle.kt_merge.specs.Heads.{IsNotLater, IsLeastHead}

@@ -1,7 +1,7 @@
 -- How a fault of a merge is written.
 use Rattle.std.specs.Prelude.{ℕ, List, ◌++◌, codes}
 use Rattle.std.specs.Fmt.{decimal}
-use Rattle.kt_part_text.specs.FaultTexts.{part_fault_text}
+use Rattle.kt_merge.specs.PartFaultTexts.{part_fault_text}
 use Rattle.kt_merge.specs.declared.fault.RowFault.{RowFault}
 use Rattle.kt_merge.specs.declared.fault.RowFault.TheVariants as row
 use Rattle.kt_merge.specs.declared.fault.MergeFault.{MergeFault}

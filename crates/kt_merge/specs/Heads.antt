@@ -1,7 +1,7 @@
 -- Which row comes next.
 use Rattle.std.specs.Prelude.{◌≡◌, ◌<◌, ◌≤◌, ◌⊎◌, ℕ, Option, Some, None, Ok, List, length, slice_get}
-use Rattle.kt_part_text.specs.declared.rows.PartRow.{PartRow}
-use Rattle.kt_part_text.specs.Reading.{PartRead, StepsPart}
+use Rattle.kt_merge.specs.declared.part_rows.PartRow.{PartRow}
+use Rattle.kt_merge.specs.Reading.{PartRead, StepsPart}
 
 -- a row comes before another, or as it: by clock, then by process
 abbrev pub IsNotLater : PartRow → PartRow → Type 0

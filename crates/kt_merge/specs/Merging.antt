@@ -5,11 +5,11 @@ use Rattle.kt_spacetime.specs.declared.event.Event.{Event}
 use Rattle.kt_text.specs.Writing.{text_of, WritesFront}
 use Rattle.kt_log_text.specs.Spelling.{spelling}
 use Rattle.kt_log_text.specs.Texts.{header}
-use Rattle.kt_names.specs.declared.rows.NamedRow.{NamedRow}
-use Rattle.kt_names.specs.Names.{nothing_given, given_by, named, numbered}
-use Rattle.kt_part_text.specs.declared.rows.PartRow.{PartRow}
-use Rattle.kt_part_text.specs.Reading.{PartRead, IsPartUnread}
-use Rattle.kt_part_text.specs.Texts.{IsPartText, BeginsPart, SaysRow, IsPartFaultFrom, clock_after}
+use Rattle.kt_spacetime.specs.declared.named_rows.NamedRow.{NamedRow}
+use Rattle.kt_meaning.specs.Names.{nothing_given, given_by, named, numbered}
+use Rattle.kt_merge.specs.declared.part_rows.PartRow.{PartRow}
+use Rattle.kt_merge.specs.Reading.{PartRead, IsPartUnread}
+use Rattle.kt_merge.specs.Texts.{IsPartText, BeginsPart, SaysRow, IsPartFaultFrom, clock_after}
 use Rattle.kt_merge.specs.declared.fault.MergeFault.{MergeFault}
 use Rattle.kt_merge.specs.declared.fault.MergeFault.TheVariants as merge
 use Rattle.kt_merge.specs.Heads.{IsNotLater}

@@ -3,10 +3,10 @@ use Rattle.std.specs.Prelude.{◌≡◌, ◌<◌, ◌≤◌, ◌+◌, ◌^◌, �
 use Rattle.kt_base.specs.declared.words.Kind.{Kind}
 use Rattle.kt_spacetime.specs.declared.event.Event.{Event}
 use Rattle.kt_spacetime.specs.declared.event.Event.TheVariants.{Began}
-use Rattle.kt_names.specs.declared.names.InstName.{InstName}
-use Rattle.kt_names.specs.declared.rows.NamedEvent.{NamedEvent}
-use Rattle.kt_names.specs.declared.rows.NamedEvent.TheVariants as own
-use Rattle.kt_names.specs.Names.{Given, numbered_event}
+use Rattle.kt_spacetime.specs.declared.names.InstName.{InstName}
+use Rattle.kt_spacetime.specs.declared.named_rows.NamedEvent.{NamedEvent}
+use Rattle.kt_spacetime.specs.declared.named_rows.NamedEvent.TheVariants as own
+use Rattle.kt_meaning.specs.Names.{Given, numbered_event}
 use Rattle.kt_merge.specs.declared.fault.RowFault.{RowFault}
 use Rattle.kt_merge.specs.declared.fault.RowFault.TheVariants as wrong
 use Rattle.kt_merge.specs.declared.tables.Gave.{Gave}

@@ -4,8 +4,8 @@ ghost use Rattle.std.specs.Prelude.{◌≡◌};
 ghost use Rattle.kt_text.specs.declared.fault.WriteFault.TheVariants as write;
 ghost use Rattle.kt_merge.specs.declared.fault.MergeFault.TheVariants as merge;
 
+use crate::part_fault::PartFault;
 use kt_base::{Memory, ProcNo};
-use kt_part_text::PartFault;
 use kt_text::WriteFault;
 use std::error::Error;
 use std::fmt;

@@ -1,11 +1,12 @@
 //! Where the row stands that gives what another one names too early.
 
 use crate::fault::MergeFault;
+use crate::part_rows::PartRow;
 use crate::parts::Parts;
+use crate::reading::PartReader;
 use crate::tables::Numbers;
 use kt_base::ProcNo;
-use kt_names::{Count, InstName, NamedCause, NamedEvent};
-use kt_part_text::{PartReader, PartRow};
+use kt_spacetime::{Count, InstName, NamedCause, NamedEvent};
 use std::io::Read;
 
 /// Where the row stands that gives a name.

@@ -1,10 +1,10 @@
 //! The next row of each part, and which of them comes first.
 
 ghost use Rattle.std.specs.Prelude.{◌≡◌, ◌+◌, List, Option, Some, slice_get, IfSome, IfNone};
-ghost use Rattle.kt_part_text.specs.declared.rows.PartRow.{PartRow as part_rows};
+ghost use Rattle.kt_merge.specs.declared.part_rows.PartRow.{PartRow as part_rows};
 ghost use Rattle.kt_merge.specs.Heads.{IsLeastHead, HasNoHead, IsBestTo};
 
-use kt_part_text::PartRow;
+use crate::part_rows::PartRow;
 
 /// Which part has the row that comes first, and that row; None where no part has a next row.
 #[inline(always)]

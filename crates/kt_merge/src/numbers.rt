@@ -3,15 +3,14 @@
 ghost use Rattle.std.specs.Prelude.{◌≡◌, ◌<◌, ◌≤◌, ◌+◌, ◌^◌, ℕ, ℤ, [], ◌∷◌, ◌++◌, Some, None, IfOk, IfErr, IfSome, OnOk, length, slice_get};
 ghost use Rattle.kt_base.specs.declared.words.Kind.{Kind as kinds};
 ghost use Rattle.kt_spacetime.specs.declared.event.Event.TheVariants as row;
-ghost use Rattle.kt_names.specs.declared.rows.NamedEvent.TheVariants as own;
-ghost use Rattle.kt_names.specs.Names.{Given, nothing_given, given_after, message_number, instance_number, numbered_cause, numbered_event};
+ghost use Rattle.kt_spacetime.specs.declared.named_rows.NamedEvent.TheVariants as own;
+ghost use Rattle.kt_meaning.specs.Names.{Given, nothing_given, given_after, message_number, instance_number, numbered_cause, numbered_event};
 ghost use Rattle.kt_merge.specs.Numbering.{IsRowFault, ShowsGiven, ShowsProcess, IsNumberedRow, MayFollow, IsNextRow};
 
 use crate::fault::RowFault;
 use crate::tables::{Gave, Numbers};
 use kt_base::{Cause, InstNo, Kind, Memory, MsgNo, ProcNo};
-use kt_names::{Count, InstName, NamedCause, NamedEvent};
-use kt_spacetime::Event;
+use kt_spacetime::{Count, Event, InstName, NamedCause, NamedEvent};
 use std::alloc::Global;
 
 // The most rows that a log has.

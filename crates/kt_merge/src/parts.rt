@@ -1,12 +1,13 @@
 //! The parts that are to be merged.
 
 ghost use Rattle.std.specs.Prelude.{◌≡◌, ◌<◌, ◌≤◌, [], ◌∷◌, ◌++◌, length, OnOk, OnErr};
-ghost use Rattle.kt_part_text.specs.Reading.{part_unread};
+ghost use Rattle.kt_merge.specs.Reading.{part_unread};
 ghost use Rattle.kt_merge.specs.Merging.{ArePartsUnread};
 
 use crate::giver::Name;
+use crate::part_rows::PartRow;
+use crate::reading::PartReader;
 use kt_base::{Memory, ProcNo};
-use kt_part_text::{PartReader, PartRow};
 use std::alloc::Global;
 use std::io::Read;
 use std::marker::Model;
@@ -22,7 +23,7 @@ pub struct Parts<R: Read + Drop> {
 
 impl<R: Read + Drop> Model for Parts<R> {
     ghost use Rattle.std.specs.Prelude.{List};
-    ghost use Rattle.kt_part_text.specs.Reading.{PartRead};
+    ghost use Rattle.kt_merge.specs.Reading.{PartRead};
 
     ghost Value = { List PartRead };
 

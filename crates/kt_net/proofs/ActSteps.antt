@@ -2,22 +2,22 @@
 use Rattle.std.proofs.Common.{◌≡◌, ◌∙◌, ℕ, ◌≤◌, Bool, true, false, not, List, [], ◌∷◌, refl, ap}
 use Rattle.std.specs.Prelude.{◌&&◌, if◌then◌else◌}
 use Rattle.kt_fifo.specs.declared.parcels.Parcel.{Parcel as SeenParcel}
-use Rattle.kt_cuts.specs.Past.{at_one}
+use Rattle.kt_meaning.specs.Past.{at_one}
 use Rattle.kt_protocol.proofs.Answering.{reply_facts}
 use Rattle.kt_protocol.proofs.Beginning.{decide_facts}
 use Rattle.kt_protocol.proofs.Replying.{ask_facts}
 use Rattle.kt_protocol.specs.Parcels.{Parcel, App, Ask, Reply, Decide}
 use Rattle.kt_protocol.specs.States.{ProtocolStep, Send, Begin, Fail, Take, State, opening}
-use Rattle.kt_closing.specs.LateSteps.{late_run}
-use Rattle.kt_closing.specs.OnceClosed.{once_closed}
-use Rattle.kt_seen.specs.Labelling.{Labelling, labelling}
-use Rattle.kt_seen.specs.Seen.{Seen, seen_parcels, seen}
-use Rattle.kt_seen.specs.ListChanges as changes
-use Rattle.kt_seen.specs.Transition.{is_seen_ready}
-use Rattle.kt_seen.proofs.Runs.{known_run, tells_runs}
-use Rattle.kt_values.specs.Values.{Act}
-use Rattle.kt_values.specs.SeenActs.{seen_acts_taking, seen_acts_taking_held, seen_acts}
-use Rattle.kt_names.specs.declared.names.InstName.{InstName}
+use Rattle.kt_protocol.specs.LateSteps.{late_run}
+use Rattle.kt_protocol.specs.OnceClosed.{once_closed}
+use Rattle.kt_machine.specs.Labelling.{Labelling, labelling}
+use Rattle.kt_machine.specs.Seen.{Seen, seen_parcels, seen}
+use Rattle.kt_machine.specs.ListChanges as changes
+use Rattle.kt_machine.specs.Transition.{is_seen_ready}
+use Rattle.kt_machine.proofs.Runs.{known_run, tells_runs}
+use Rattle.kt_machine.specs.Values.{Act}
+use Rattle.kt_machine.specs.SeenActs.{seen_acts_taking, seen_acts_taking_held, seen_acts}
+use Rattle.kt_spacetime.specs.declared.names.InstName.{InstName}
 use Rattle.kt_net.specs.declared.parcels.NodeParcel.{NodeParcel}
 use Rattle.kt_net.specs.Nodes.{NodeState, nothing}
 use Rattle.kt_net.specs.NodeMessages.{taking_held}

@@ -3,16 +3,16 @@ use Rattle.std.proofs.Common.{◌≡◌, ◌∙◌, ℕ, ℤ, ◌≤◌, Bool, t
 use Rattle.std.specs.Prelude.{◌==◌, ◌&&◌, if◌then◌else◌}
 use Rattle.std.proofs.lemmas.Bool.Decides.{nat_tests}
 use Rattle.std.proofs.lemmas.List.{append-nil}
-use Rattle.kt_cuts.specs.Past.{at_one}
+use Rattle.kt_meaning.specs.Past.{at_one}
 use Rattle.kt_tables.specs.Peers.{count_peers}
-use Rattle.kt_seen.specs.CallTests.{must_take, must_roll, is_asked_in_checkpoint, is_asked_in_rollback}
-use Rattle.kt_seen.specs.Seen.{Seen, SeenPart}
-use Rattle.kt_seen.specs.SeenJoining.{no_note}
-use Rattle.kt_seen.specs.SeenReplies.{part_after_reply}
-use Rattle.kt_seen.specs.Transition.{is_seen_ready}
-use Rattle.kt_values.specs.Values.{Act, Keep, Drop, closing as acts_of_closing}
-use Rattle.kt_values.specs.SeenActs.{seen_acts_arriving, seen_acts_ending, seen_acts_settling, seen_acts_asked, seen_acts_replied, seen_acts_decided, seen_acts_beginning, seen_acts_starting}
-use Rattle.kt_names.specs.declared.names.InstName.{InstName}
+use Rattle.kt_machine.specs.CallTests.{must_take, must_roll, is_asked_in_checkpoint, is_asked_in_rollback}
+use Rattle.kt_machine.specs.Seen.{Seen, SeenPart}
+use Rattle.kt_machine.specs.SeenJoining.{no_note}
+use Rattle.kt_machine.specs.SeenReplies.{part_after_reply}
+use Rattle.kt_machine.specs.Transition.{is_seen_ready}
+use Rattle.kt_machine.specs.Values.{Act, Keep, Drop, closing as acts_of_closing}
+use Rattle.kt_machine.specs.SeenActs.{seen_acts_arriving, seen_acts_ending, seen_acts_settling, seen_acts_asked, seen_acts_replied, seen_acts_decided, seen_acts_beginning, seen_acts_starting}
+use Rattle.kt_spacetime.specs.declared.names.InstName.{InstName}
 use Rattle.kt_net.specs.declared.parcels.NodeParcel.TheVariants as put
 use Rattle.kt_net.specs.Nodes.{NodeState, Doing, nothing, is_in_rollback}
 use Rattle.kt_net.specs.Nodes as input

@@ -5,10 +5,10 @@ use Rattle.std.proofs.Math.Path.{fun_ext}
 use Rattle.std.proofs.lemmas.Bool.Decides.{nat_tests}
 use Rattle.std.proofs.lemmas.List.{append-nil}
 use Rattle.std.proofs.lemmas.List.Elements.{filter-append}
-use Rattle.kt_cuts.specs.Past.{at_one}
+use Rattle.kt_meaning.specs.Past.{at_one}
 use Rattle.kt_protocol.specs.States.{ProtocolStep}
-use Rattle.kt_values.specs.Acts.{stepper}
-use Rattle.kt_names.specs.declared.rows.NamedEvent.{NamedEvent}
+use Rattle.kt_machine.specs.Acts.{stepper}
+use Rattle.kt_spacetime.specs.declared.named_rows.NamedEvent.{NamedEvent}
 use Rattle.kt_net.specs.Nodes.{NodeState, Input, Doing}
 use Rattle.kt_net.specs.Clocks.{Envelope, ClockedRow, ClockedNet, envelope, clocked_row, source_of, input_at, clock_after, clocked_doing, at_input, clocked_step, rows_of}
 

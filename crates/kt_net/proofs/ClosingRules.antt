@@ -7,14 +7,14 @@ use Rattle.kt_fifo.specs.declared.parcels.Parcel.TheVariants as in_code
 use Rattle.kt_spacetime.specs.declared.event.Event.TheVariants as row
 use Rattle.kt_tables.specs.Calls.{on_rollback}
 use Rattle.kt_protocol.proofs.Updates.{is_same, is_other}
-use Rattle.kt_seen.specs.Seen.{no_part, SeenLists, Seen}
-use Rattle.kt_seen.specs.CallTests.{call_of_decision}
-use Rattle.kt_seen.specs.ListChanges as changes
-use Rattle.kt_seen.specs.SeenClosing.{seen_closing_checkpoint, seen_closing_rollback, seen_closing, seen_deciding, seen_ending, seen_settling}
-use Rattle.kt_values.specs.Values.{closing as acts_of_closing}
-use Rattle.kt_names.specs.declared.names.InstName.{InstName}
-use Rattle.kt_names.specs.declared.rows.NamedEvent.TheVariants as own
-use Rattle.kt_names.specs.Names.{row_of}
+use Rattle.kt_machine.specs.Seen.{no_part, SeenLists, Seen}
+use Rattle.kt_machine.specs.CallTests.{call_of_decision}
+use Rattle.kt_machine.specs.ListChanges as changes
+use Rattle.kt_machine.specs.SeenClosing.{seen_closing_checkpoint, seen_closing_rollback, seen_closing, seen_deciding, seen_ending, seen_settling}
+use Rattle.kt_machine.specs.Values.{closing as acts_of_closing}
+use Rattle.kt_spacetime.specs.declared.names.InstName.{InstName}
+use Rattle.kt_spacetime.specs.declared.named_rows.NamedEvent.TheVariants as own
+use Rattle.kt_meaning.specs.Names.{row_of}
 use Rattle.kt_net.specs.declared.parcels.NodeParcel.{NodeParcel}
 use Rattle.kt_net.specs.declared.parcels.NodeParcel.TheVariants as put
 use Rattle.kt_net.specs.Nodes.{NodeState, Doing, putting, with_one}

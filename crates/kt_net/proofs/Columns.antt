@@ -7,9 +7,9 @@ use Rattle.kt_fifo.specs.declared.parcels.Parcel.{Parcel}
 use Rattle.kt_fifo.specs.declared.parcels.Parcel.TheVariants as in_code
 use Rattle.kt_fifo.specs.Parcels.{stays, without_above}
 use Rattle.kt_protocol.proofs.Updates.{is_same, is_other}
-use Rattle.kt_seen.specs.Seen.{SeenLists}
-use Rattle.kt_seen.specs.ListChanges as changes
-use Rattle.kt_names.specs.declared.names.InstName.{InstName}
+use Rattle.kt_machine.specs.Seen.{SeenLists}
+use Rattle.kt_machine.specs.ListChanges as changes
+use Rattle.kt_spacetime.specs.declared.names.InstName.{InstName}
 use Rattle.kt_net.specs.declared.parcels.NodeParcel.{NodeParcel}
 use Rattle.kt_net.specs.Nodes.{NodeLists, putting, with_one}
 use Rattle.kt_net.specs.NodeClosing.{is_within, within}

@@ -6,21 +6,21 @@ use Rattle.std.proofs.lemmas.List.{append-nil}
 use Rattle.kt_base.specs.declared.words.Cause.TheVariants.{Busy, Down}
 use Rattle.kt_base.specs.declared.words.Verb.TheVariants as verb
 use Rattle.kt_spacetime.specs.declared.event.Event.{Event}
-use Rattle.kt_cuts.specs.Past.{at_one}
+use Rattle.kt_meaning.specs.Past.{at_one}
 use Rattle.kt_protocol.specs.Replies.{unable_cause}
 use Rattle.kt_protocol.specs.Steps.{verb_for}
 use Rattle.kt_protocol.specs.States.{ProtocolStep}
 use Rattle.kt_protocol.specs.States as step
-use Rattle.kt_seen.specs.Messages.{sends_of}
-use Rattle.kt_seen.specs.Seen.{Seen}
-use Rattle.kt_seen.specs.SeenMessages.{seen_refusal}
-use Rattle.kt_seen.specs.SeenJoining.{no_note, seen_began, seen_joining_checkpoint, seen_joining_rollback}
-use Rattle.kt_seen.specs.SeenClosing.{seen_closing_rollback, seen_closing, seen_closing_checkpoint, seen_ending, seen_deciding, seen_settling}
-use Rattle.kt_seen.specs.Transition.{seen_beginning, seen_begin_command, transition}
-use Rattle.kt_names.specs.declared.names.InstName.{InstName}
-use Rattle.kt_names.specs.declared.rows.NamedCause.TheVariants as own_cause
-use Rattle.kt_names.specs.Names.{nothing_given, numbered_cause}
-use Rattle.kt_names.proofs.GivenFacts.{none_given}
+use Rattle.kt_machine.specs.Messages.{sends_of}
+use Rattle.kt_machine.specs.Seen.{Seen}
+use Rattle.kt_machine.specs.SeenMessages.{seen_refusal}
+use Rattle.kt_machine.specs.SeenJoining.{no_note, seen_began, seen_joining_checkpoint, seen_joining_rollback}
+use Rattle.kt_machine.specs.SeenClosing.{seen_closing_rollback, seen_closing, seen_closing_checkpoint, seen_ending, seen_deciding, seen_settling}
+use Rattle.kt_machine.specs.Transition.{seen_beginning, seen_begin_command, transition}
+use Rattle.kt_spacetime.specs.declared.names.InstName.{InstName}
+use Rattle.kt_spacetime.specs.declared.named_rows.NamedCause.TheVariants as own_cause
+use Rattle.kt_meaning.specs.Names.{nothing_given, numbered_cause}
+use Rattle.kt_meaning.proofs.GivenFacts.{none_given}
 use Rattle.kt_net.specs.Nodes.{NodeState, Doing, nothing}
 use Rattle.kt_net.specs.Nodes as input
 use Rattle.kt_net.specs.NodeMessages.{unable}

@@ -6,17 +6,17 @@ use Rattle.std.proofs.lemmas.List.{length-map}
 use Rattle.kt_base.specs.declared.words.Kind.TheVariants.{Checkpoint, Rollback}
 use Rattle.kt_fifo.specs.declared.parcels.Parcel.TheVariants as in_code
 use Rattle.kt_spacetime.specs.declared.event.Event.TheVariants as row
-use Rattle.kt_cuts.specs.Past.{at_one}
+use Rattle.kt_meaning.specs.Past.{at_one}
 use Rattle.kt_tables.specs.Calls.{on_tentative}
 use Rattle.kt_protocol.proofs.Updates.{at_one_here, at_one_other}
 use Rattle.kt_protocol.specs.Joining.{kind_for}
-use Rattle.kt_seen.specs.Seen.{SeenPart, SeenLists, Seen}
-use Rattle.kt_seen.specs.ListChanges as changes
-use Rattle.kt_seen.specs.CallTests.{is_asked_in_checkpoint, checkpoint_label, is_asked_in_rollback, rollback_label}
-use Rattle.kt_seen.specs.SeenJoining.{new_part, no_note, seen_began, seen_joining_checkpoint, seen_joining_rollback, part_after_ask, seen_member_ask}
-use Rattle.kt_names.specs.declared.names.InstName.{InstName}
-use Rattle.kt_names.specs.declared.rows.NamedEvent.TheVariants as own
-use Rattle.kt_names.specs.Names.{name_of, row_of}
+use Rattle.kt_machine.specs.Seen.{SeenPart, SeenLists, Seen}
+use Rattle.kt_machine.specs.ListChanges as changes
+use Rattle.kt_machine.specs.CallTests.{is_asked_in_checkpoint, checkpoint_label, is_asked_in_rollback, rollback_label}
+use Rattle.kt_machine.specs.SeenJoining.{new_part, no_note, seen_began, seen_joining_checkpoint, seen_joining_rollback, part_after_ask, seen_member_ask}
+use Rattle.kt_spacetime.specs.declared.names.InstName.{InstName}
+use Rattle.kt_spacetime.specs.declared.named_rows.NamedEvent.TheVariants as own
+use Rattle.kt_meaning.specs.Names.{name_of, row_of}
 use Rattle.kt_net.specs.declared.parcels.NodeParcel.TheVariants as put
 use Rattle.kt_net.specs.Nodes.{NodeState, Doing, nothing}
 use Rattle.kt_net.specs.NodeJoining.{next_name, beginning, joining_checkpoint, joining_rollback, noting}

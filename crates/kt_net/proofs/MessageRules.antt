@@ -8,21 +8,21 @@ use Rattle.kt_fifo.specs.declared.parcels.Parcel.{Parcel}
 use Rattle.kt_fifo.specs.declared.parcels.Parcel.TheVariants as in_code
 use Rattle.kt_spacetime.specs.declared.event.Event.{Event}
 use Rattle.kt_spacetime.specs.declared.event.Event.TheVariants as row
-use Rattle.kt_cuts.specs.Messages.{row_at}
+use Rattle.kt_meaning.specs.Messages.{row_at}
 use Rattle.kt_tables.specs.Calls.{received}
 use Rattle.kt_protocol.specs.Replies.{unable_cause}
-use Rattle.kt_seen.specs.Messages.{sends_of, label_by_rows}
-use Rattle.kt_seen.specs.Seen.{SeenProcess, SeenLists, Seen}
-use Rattle.kt_seen.specs.ListChanges as changes
-use Rattle.kt_seen.specs.SeenMessages.{seen_sending, seen_arrival, seen_receiving, seen_dropping, seen_failing, seen_refusal}
-use Rattle.kt_seen.proofs.OnePiece.{set_same}
-use Rattle.kt_names.specs.declared.names.InstName.{InstName}
-use Rattle.kt_names.specs.declared.rows.NamedCause.{NamedCause}
-use Rattle.kt_names.specs.declared.rows.NamedCause.TheVariants as own_cause
-use Rattle.kt_names.specs.declared.rows.NamedEvent.{NamedEvent}
-use Rattle.kt_names.specs.declared.rows.NamedEvent.TheVariants as own
-use Rattle.kt_names.specs.declared.rows.NamedRow.{NamedRow}
-use Rattle.kt_names.specs.Names.{row_of, numbered_cause}
+use Rattle.kt_machine.specs.Messages.{sends_of, label_by_rows}
+use Rattle.kt_machine.specs.Seen.{SeenProcess, SeenLists, Seen}
+use Rattle.kt_machine.specs.ListChanges as changes
+use Rattle.kt_machine.specs.SeenMessages.{seen_sending, seen_arrival, seen_receiving, seen_dropping, seen_failing, seen_refusal}
+use Rattle.kt_machine.proofs.OnePiece.{set_same}
+use Rattle.kt_spacetime.specs.declared.names.InstName.{InstName}
+use Rattle.kt_spacetime.specs.declared.named_rows.NamedCause.{NamedCause}
+use Rattle.kt_spacetime.specs.declared.named_rows.NamedCause.TheVariants as own_cause
+use Rattle.kt_spacetime.specs.declared.named_rows.NamedEvent.{NamedEvent}
+use Rattle.kt_spacetime.specs.declared.named_rows.NamedEvent.TheVariants as own
+use Rattle.kt_spacetime.specs.declared.named_rows.NamedRow.{NamedRow}
+use Rattle.kt_meaning.specs.Names.{row_of, numbered_cause}
 use Rattle.kt_net.specs.declared.parcels.NodeParcel.TheVariants as put
 use Rattle.kt_net.specs.Nodes.{NodeLists, NodeState, Doing, nothing, with_one}
 use Rattle.kt_net.specs.NodeMessages.{sending, receiving, arriving, holding, failing, refusing, unable}

@@ -6,13 +6,13 @@ use Rattle.std.proofs.lemmas.Bool.{cases_eq}
 use Rattle.std.proofs.lemmas.Grind.{fold-append}
 use Rattle.kt_spacetime.specs.declared.event.Event.{Event}
 use Rattle.kt_spacetime.specs.declared.event.Event.TheVariants.{Sent, Received, Dropped, Began, Took, Ready, Unwilling, Decided, Closed, Failed, Refused}
-use Rattle.kt_cuts.proofs.Updates.{at_one_all}
+use Rattle.kt_meaning.proofs.Updates.{at_one_all}
 use Rattle.kt_protocol.proofs.Updates.{is_other}
-use Rattle.kt_names.specs.declared.names.InstName.{InstName}
-use Rattle.kt_names.specs.Names.{Given, nothing_given, given_after, given_by, at_place, place_of, name_of, instance_number, name_begun_by, instance_name}
+use Rattle.kt_spacetime.specs.declared.names.InstName.{InstName}
+use Rattle.kt_meaning.specs.Names.{Given, nothing_given, given_after, given_by, at_place, place_of, name_of, instance_number, name_begun_by, instance_name}
 use Rattle.std.proofs.lemmas.List.{length-append}
-use Rattle.kt_names.proofs.PlaceFacts.{map_some, then_some, same_test, tested, place_at, place_kept, at_kept, at_some}
-use Rattle.kt_names.proofs.GivenFacts.{AreGiven, none_given, given_more}
+use Rattle.kt_meaning.proofs.PlaceFacts.{map_some, then_some, same_test, tested, place_at, place_kept, at_kept, at_some}
+use Rattle.kt_meaning.proofs.GivenFacts.{AreGiven, none_given, given_more}
 use Rattle.kt_net.specs.NodeSteps.{is_one}
 use Rattle.kt_net.specs.Erasing.{name_in}
 

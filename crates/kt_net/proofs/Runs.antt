@@ -3,14 +3,14 @@ use Rattle.std.proofs.Common.{◌≡◌, ◌∙◌, ℕ, Some, List, [], ◌∷�
 use Rattle.std.proofs.lemmas.List.{append-nil}
 use Rattle.kt_tables.specs.Calls.{Speaks}
 use Rattle.kt_protocol.specs.States.{ProtocolStep, opening}
-use Rattle.kt_closing.specs.LateSteps.{late_run}
-use Rattle.kt_seen.specs.Seen.{Seen, seen_parcels, seen}
-use Rattle.kt_seen.specs.Transition.{transition}
-use Rattle.kt_seen.proofs.GrowingLogs.{step_grown}
-use Rattle.kt_seen.proofs.RunFacts.{speaks}
-use Rattle.kt_seen.proofs.Runs.{seen_next}
-use Rattle.kt_names.specs.declared.names.InstName.{InstName}
-use Rattle.kt_names.specs.Names.{numbered}
+use Rattle.kt_protocol.specs.LateSteps.{late_run}
+use Rattle.kt_machine.specs.Seen.{Seen, seen_parcels, seen}
+use Rattle.kt_machine.specs.Transition.{transition}
+use Rattle.kt_machine.proofs.GrowingLogs.{step_grown}
+use Rattle.kt_machine.proofs.RunFacts.{speaks}
+use Rattle.kt_machine.proofs.Runs.{seen_next}
+use Rattle.kt_spacetime.specs.declared.names.InstName.{InstName}
+use Rattle.kt_meaning.specs.Names.{numbered}
 use Rattle.kt_net.specs.Nodes.{NodeState}
 use Rattle.kt_net.specs.Nets.{Net, net_step, net_run, opening_net}
 use Rattle.kt_net.specs.Erasing.{name_in, erased_parcels, erased_process, erased_node, rows_from}

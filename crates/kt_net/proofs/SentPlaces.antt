@@ -5,14 +5,14 @@ use Rattle.std.proofs.lemmas.Bool.{cases_eq}
 use Rattle.std.proofs.lemmas.List.{length-append}
 use Rattle.kt_spacetime.specs.declared.event.Event.{Event}
 use Rattle.kt_spacetime.specs.declared.event.Event.TheVariants.{Sent, Received, Dropped, Began, Took, Ready, Unwilling, Decided, Closed, Failed, Refused}
-use Rattle.kt_cuts.proofs.Updates.{at_one_all}
-use Rattle.kt_cuts.proofs.Shown.{at_same}
+use Rattle.kt_meaning.proofs.Updates.{at_one_all}
+use Rattle.kt_meaning.proofs.Shown.{at_same}
 use Rattle.kt_protocol.proofs.Updates.{is_other, at_one_other}
-use Rattle.kt_cuts.specs.Messages.{row_at}
-use Rattle.kt_cuts.specs.Past.{at_one}
-use Rattle.kt_seen.specs.Messages.{is_send_of, sends_of}
-use Rattle.kt_names.specs.Names.{Given, given_after, given_by, at_place}
-use Rattle.kt_names.proofs.PlaceFacts.{at_kept, at_last, same_test}
+use Rattle.kt_meaning.specs.Messages.{row_at}
+use Rattle.kt_meaning.specs.Past.{at_one}
+use Rattle.kt_machine.specs.Messages.{is_send_of, sends_of}
+use Rattle.kt_meaning.specs.Names.{Given, given_after, given_by, at_place}
+use Rattle.kt_meaning.proofs.PlaceFacts.{at_kept, at_last, same_test}
 
 abbrev one_of : Bool → ℕ
 one_of b = if b then 1 else 0

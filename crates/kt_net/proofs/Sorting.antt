@@ -6,8 +6,8 @@ use Rattle.std.proofs.lemmas.List.{append-nil}
 use Rattle.std.proofs.lemmas.List.Elements.{filter-append}
 use Rattle.kt_protocol.proofs.Updates.{at_one_here}
 use Rattle.kt_protocol.specs.States.{ProtocolStep}
-use Rattle.kt_values.specs.Acts.{stepper}
-use Rattle.kt_names.specs.declared.rows.NamedEvent.{NamedEvent}
+use Rattle.kt_machine.specs.Acts.{stepper}
+use Rattle.kt_spacetime.specs.declared.named_rows.NamedEvent.{NamedEvent}
 use Rattle.kt_net.specs.Nodes.{Input}
 use Rattle.kt_net.specs.NodeSteps.{node_after}
 use Rattle.kt_net.specs.Clocks.{ClockedRow, ClockedNet, clocked_row, source_of, input_at, clocked_doing, at_input, clocked_step, clocked_run, opening_clocked, rows_of, AreByClock}

@@ -2,24 +2,24 @@
 use Rattle.std.proofs.Common.{◌≡◌, ◌∙◌, ℕ, ◌≤◌, Bool, true, false, not, List, [], ◌∷◌, refl, sym, ap, subst}
 use Rattle.std.specs.Prelude.{◌&&◌, if◌then◌else◌}
 use Rattle.kt_fifo.specs.declared.parcels.Parcel.{Parcel as SeenParcel}
-use Rattle.kt_cuts.specs.Past.{at_one}
+use Rattle.kt_meaning.specs.Past.{at_one}
 use Rattle.kt_protocol.proofs.Answering.{reply_facts}
 use Rattle.kt_protocol.proofs.Beginning.{decide_facts}
 use Rattle.kt_protocol.proofs.Replying.{ask_facts}
 use Rattle.kt_protocol.specs.Parcels.{Parcel, App, Ask, Reply, Decide}
 use Rattle.kt_protocol.specs.States.{ProtocolStep, Send, Begin, Fail, Take, State, opening}
-use Rattle.kt_closing.specs.LateSteps.{late_run}
-use Rattle.kt_closing.specs.OnceClosed.{once_closed}
-use Rattle.kt_seen.specs.Labelling.{Labelling, labelling}
-use Rattle.kt_seen.specs.Messages.{AreSentTo}
-use Rattle.kt_seen.specs.Seen.{Seen, seen_parcels, seen}
-use Rattle.kt_seen.specs.ListChanges as changes
-use Rattle.kt_seen.specs.SeenMessages.{seen_without_front}
-use Rattle.kt_seen.specs.Transition.{is_seen_ready, seen_front, seen_take, transition}
-use Rattle.kt_seen.proofs.LogFacts.{used_is}
-use Rattle.kt_seen.proofs.RunFacts.{channel_sent, held_to}
-use Rattle.kt_seen.proofs.Runs.{known_run, tells_runs}
-use Rattle.kt_names.specs.declared.names.InstName.{InstName}
+use Rattle.kt_protocol.specs.LateSteps.{late_run}
+use Rattle.kt_protocol.specs.OnceClosed.{once_closed}
+use Rattle.kt_machine.specs.Labelling.{Labelling, labelling}
+use Rattle.kt_machine.specs.Messages.{AreSentTo}
+use Rattle.kt_machine.specs.Seen.{Seen, seen_parcels, seen}
+use Rattle.kt_machine.specs.ListChanges as changes
+use Rattle.kt_machine.specs.SeenMessages.{seen_without_front}
+use Rattle.kt_machine.specs.Transition.{is_seen_ready, seen_front, seen_take, transition}
+use Rattle.kt_machine.proofs.LogFacts.{used_is}
+use Rattle.kt_machine.proofs.RunFacts.{channel_sent, held_to}
+use Rattle.kt_machine.proofs.Runs.{known_run, tells_runs}
+use Rattle.kt_spacetime.specs.declared.names.InstName.{InstName}
 use Rattle.kt_net.specs.declared.parcels.NodeParcel.{NodeParcel}
 use Rattle.kt_net.specs.Nodes.{NodeState, nothing}
 use Rattle.kt_net.specs.NodeMessages.{taking_held}

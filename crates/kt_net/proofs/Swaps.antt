@@ -3,7 +3,7 @@ use Rattle.std.proofs.Common.{◌≡◌, ◌≢◌, ◌∙◌, ℕ, ◌+◌, ◌
 use Rattle.std.specs.Prelude.{◌==◌, ◌&&◌, max, if◌then◌else◌}
 use Rattle.kt_protocol.proofs.Updates.{is_other, at_one_other}
 use Rattle.kt_protocol.specs.States.{ProtocolStep}
-use Rattle.kt_values.specs.Acts.{stepper}
+use Rattle.kt_machine.specs.Acts.{stepper}
 use Rattle.kt_net.specs.declared.parcels.NodeParcel.{NodeParcel}
 use Rattle.kt_net.specs.Nodes.{NodeState, Input}
 use Rattle.kt_net.specs.NodeSteps.{node_after}

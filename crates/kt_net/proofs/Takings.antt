@@ -5,21 +5,21 @@ use Rattle.std.proofs.lemmas.Bool.Decides.{nat_tests}
 use Rattle.kt_base.specs.declared.words.Cause.TheVariants.{Busy}
 use Rattle.kt_fifo.specs.declared.parcels.Parcel.TheVariants as in_code
 use Rattle.kt_spacetime.specs.declared.event.Event.TheVariants as row
-use Rattle.kt_cuts.specs.Messages.{row_at}
-use Rattle.kt_cuts.specs.Past.{at_one}
+use Rattle.kt_meaning.specs.Messages.{row_at}
+use Rattle.kt_meaning.specs.Past.{at_one}
 use Rattle.kt_protocol.specs.Replies.{unable_cause}
-use Rattle.kt_seen.specs.Messages.{label_by_rows}
-use Rattle.kt_seen.specs.Seen.{Seen}
-use Rattle.kt_seen.specs.ListChanges as changes
-use Rattle.kt_seen.specs.CallTests.{must_take, must_roll}
-use Rattle.kt_seen.specs.SeenMessages.{seen_arrival}
-use Rattle.kt_seen.specs.SeenJoining.{no_note, seen_member_ask, seen_joining_checkpoint, seen_joining_rollback}
-use Rattle.kt_seen.specs.SeenReplies.{part_after_reply}
-use Rattle.kt_seen.specs.SeenClosing.{seen_closing, seen_settling}
-use Rattle.kt_seen.specs.Transition.{is_seen_ready}
-use Rattle.kt_names.specs.declared.names.InstName.{InstName}
-use Rattle.kt_names.specs.declared.rows.NamedCause.TheVariants as own_cause
-use Rattle.kt_names.specs.Names.{numbered_cause}
+use Rattle.kt_machine.specs.Messages.{label_by_rows}
+use Rattle.kt_machine.specs.Seen.{Seen}
+use Rattle.kt_machine.specs.ListChanges as changes
+use Rattle.kt_machine.specs.CallTests.{must_take, must_roll}
+use Rattle.kt_machine.specs.SeenMessages.{seen_arrival}
+use Rattle.kt_machine.specs.SeenJoining.{no_note, seen_member_ask, seen_joining_checkpoint, seen_joining_rollback}
+use Rattle.kt_machine.specs.SeenReplies.{part_after_reply}
+use Rattle.kt_machine.specs.SeenClosing.{seen_closing, seen_settling}
+use Rattle.kt_machine.specs.Transition.{is_seen_ready}
+use Rattle.kt_spacetime.specs.declared.names.InstName.{InstName}
+use Rattle.kt_spacetime.specs.declared.named_rows.NamedCause.TheVariants as own_cause
+use Rattle.kt_meaning.specs.Names.{numbered_cause}
 use Rattle.kt_net.specs.declared.parcels.NodeParcel.TheVariants as put
 use Rattle.kt_net.specs.Nodes.{NodeState, Doing, nothing, is_in_rollback}
 use Rattle.kt_net.specs.NodeMessages.{unable}

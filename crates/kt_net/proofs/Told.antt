@@ -8,19 +8,19 @@ use Rattle.kt_base.specs.declared.words.Kind.{Kind}
 use Rattle.kt_base.specs.declared.words.Verb.{Verb}
 use Rattle.kt_spacetime.specs.declared.event.Event.{Event}
 use Rattle.kt_spacetime.specs.declared.event.Event.TheVariants.{Sent, Received, Dropped, Began, Took, Ready, Unwilling, Decided, Closed, Failed, Refused}
-use Rattle.kt_cuts.proofs.Shown.{at_same}
-use Rattle.kt_cuts.specs.Messages.{row_at}
-use Rattle.kt_cuts.specs.Past.{at_one}
-use Rattle.kt_seen.specs.Messages.{sends_of, label_by_rows}
-use Rattle.kt_names.specs.declared.names.InstName.{InstName}
-use Rattle.kt_names.specs.declared.rows.NamedCause.{NamedCause}
-use Rattle.kt_names.specs.declared.rows.NamedEvent.{NamedEvent}
-use Rattle.kt_names.specs.declared.rows.NamedEvent.TheVariants as own
-use Rattle.kt_names.specs.declared.rows.NamedRow.{NamedRow}
-use Rattle.kt_names.specs.Names.{Given, nothing_given, initiators_after, begun_after, given_after, given_by, at_place, name_of, row_of, instance_number, instance_name, numbered_cause, numbered_event, numbered_from}
-use Rattle.kt_names.proofs.PlaceFacts.{same_test, at_last}
-use Rattle.kt_names.proofs.GivenFacts.{none_given, given_more}
-use Rattle.kt_names.proofs.NumberedFacts.{numbers_first, numbered_more}
+use Rattle.kt_meaning.proofs.Shown.{at_same}
+use Rattle.kt_meaning.specs.Messages.{row_at}
+use Rattle.kt_meaning.specs.Past.{at_one}
+use Rattle.kt_machine.specs.Messages.{sends_of, label_by_rows}
+use Rattle.kt_spacetime.specs.declared.names.InstName.{InstName}
+use Rattle.kt_spacetime.specs.declared.named_rows.NamedCause.{NamedCause}
+use Rattle.kt_spacetime.specs.declared.named_rows.NamedEvent.{NamedEvent}
+use Rattle.kt_spacetime.specs.declared.named_rows.NamedEvent.TheVariants as own
+use Rattle.kt_spacetime.specs.declared.named_rows.NamedRow.{NamedRow}
+use Rattle.kt_meaning.specs.Names.{Given, nothing_given, initiators_after, begun_after, given_after, given_by, at_place, name_of, row_of, instance_number, instance_name, numbered_cause, numbered_event, numbered_from}
+use Rattle.kt_meaning.proofs.PlaceFacts.{same_test, at_last}
+use Rattle.kt_meaning.proofs.GivenFacts.{none_given, given_more}
+use Rattle.kt_meaning.proofs.NumberedFacts.{numbers_first, numbered_more}
 use Rattle.kt_net.specs.Erasing.{event_from, rows_from}
 use Rattle.kt_net.proofs.Naming.{IsNaming, all_given, given_push, name_more, number_of_name, name_of_number}
 use Rattle.kt_net.proofs.SentPlaces.{sent_count, sent_place}

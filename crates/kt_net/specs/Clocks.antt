@@ -1,11 +1,11 @@
 -- Nets with clocks: when each node steps, and what carries it.
 use Rattle.std.specs.Prelude.{ℕ, ◌+◌, ◌<◌, ◌≤◌, ◌≡◌, ◌⊎◌, ◌==◌, ◌&&◌, not, max, if◌then◌else◌, Bool, Option, Some, None, List, [], ◌∷◌, ◌++◌, map, filter, drop}
-use Rattle.kt_cuts.specs.Past.{at_one}
+use Rattle.kt_meaning.specs.Past.{at_one}
 use Rattle.kt_protocol.specs.States.{ProtocolStep, Send, Begin, Fail, Take}
-use Rattle.kt_values.specs.Acts.{stepper}
-use Rattle.kt_names.specs.declared.rows.NamedRow.{NamedRow}
-use Rattle.kt_names.specs.declared.rows.NamedEvent.{NamedEvent}
-use Rattle.kt_names.specs.Names.{row_of}
+use Rattle.kt_machine.specs.Acts.{stepper}
+use Rattle.kt_spacetime.specs.declared.named_rows.NamedRow.{NamedRow}
+use Rattle.kt_spacetime.specs.declared.named_rows.NamedEvent.{NamedEvent}
+use Rattle.kt_meaning.specs.Names.{row_of}
 use Rattle.kt_net.specs.declared.parcels.NodeParcel.{NodeParcel}
 use Rattle.kt_net.specs.Nodes.{NodeState, Input, is_in_rollback}
 use Rattle.kt_net.specs.Nodes as input

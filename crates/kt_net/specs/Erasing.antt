@@ -1,14 +1,14 @@
--- What names leave of a state of kt_seen's machine: what nets keep, and no numbers of instances and messages.
+-- What names leave of a state of kt_machine's machine: what nets keep, and no numbers of instances and messages.
 use Rattle.std.specs.Prelude.{ℕ, ◌-◌, ◌==◌, if◌then◌else◌, Option, Some, None, unwrap_or, List, length, map}
 use Rattle.kt_fifo.specs.declared.parcels.Parcel.{Parcel}
 use Rattle.kt_fifo.specs.declared.parcels.Parcel.TheVariants as in_code
 use Rattle.kt_spacetime.specs.declared.event.Event.{Event}
-use Rattle.kt_seen.specs.Seen.{SeenProcess, Seen}
-use Rattle.kt_names.specs.declared.names.InstName.{InstName}
-use Rattle.kt_names.specs.declared.rows.NamedEvent.{NamedEvent}
-use Rattle.kt_names.specs.declared.rows.NamedEvent.TheVariants.{Sent, Received, Dropped, Began, Took, Ready, Unwilling, Decided, Closed, Failed, Refused}
-use Rattle.kt_names.specs.declared.rows.NamedRow.{NamedRow}
-use Rattle.kt_names.specs.Names.{nothing_given, given_by, name_of, row_of, instance_name}
+use Rattle.kt_machine.specs.Seen.{SeenProcess, Seen}
+use Rattle.kt_spacetime.specs.declared.names.InstName.{InstName}
+use Rattle.kt_spacetime.specs.declared.named_rows.NamedEvent.{NamedEvent}
+use Rattle.kt_spacetime.specs.declared.named_rows.NamedEvent.TheVariants.{Sent, Received, Dropped, Began, Took, Ready, Unwilling, Decided, Closed, Failed, Refused}
+use Rattle.kt_spacetime.specs.declared.named_rows.NamedRow.{NamedRow}
+use Rattle.kt_meaning.specs.Names.{nothing_given, given_by, name_of, row_of, instance_name}
 use Rattle.kt_net.specs.declared.parcels.NodeParcel.{NodeParcel}
 use Rattle.kt_net.specs.declared.parcels.NodeParcel.TheVariants.{App, Ask, Reply, Decide}
 use Rattle.kt_net.specs.Nodes.{NodeState}

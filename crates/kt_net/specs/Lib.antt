@@ -1,5 +1,5 @@
-pub use Rattle.kt_values.specs.SeenActs
-pub use Rattle.kt_names.specs.Names
+pub use Rattle.kt_machine.specs.SeenActs
+pub use Rattle.kt_meaning.specs.Names
 pub mod Nodes
 pub mod NodeMessages
 pub mod NodeJoining

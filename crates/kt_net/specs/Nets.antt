@@ -1,11 +1,11 @@
 -- Nodes that are linked by ordered channels, and runs of steps.
 use Rattle.std.specs.Prelude.{ℕ, ◌==◌, ◌&&◌, not, if◌then◌else◌, Bool, true, false, None, List, [], ◌∷◌, ◌++◌, map}
-use Rattle.kt_cuts.specs.Past.{at_one}
+use Rattle.kt_meaning.specs.Past.{at_one}
 use Rattle.kt_protocol.specs.States.{ProtocolStep, Send, Begin, Fail, Take}
-use Rattle.kt_seen.specs.Seen.{no_part}
-use Rattle.kt_values.specs.Values.{Act}
-use Rattle.kt_names.specs.declared.rows.NamedRow.{NamedRow}
-use Rattle.kt_names.specs.Names.{row_of}
+use Rattle.kt_machine.specs.Seen.{no_part}
+use Rattle.kt_machine.specs.Values.{Act}
+use Rattle.kt_spacetime.specs.declared.named_rows.NamedRow.{NamedRow}
+use Rattle.kt_meaning.specs.Names.{row_of}
 use Rattle.kt_net.specs.declared.parcels.NodeParcel.{NodeParcel}
 use Rattle.kt_net.specs.Nodes.{NodeState, Doing, is_in_rollback}
 use Rattle.kt_net.specs.Nodes as input

@@ -1,11 +1,11 @@
 -- The rules of answering, deciding and closing an instance.
 use Rattle.std.specs.Prelude.{ℕ, ◌==◌, nat_le, if◌then◌else◌, Bool, true, false, Option, Some, None, List, [], ◌∷◌, ◌++◌, filter, drop}
 use Rattle.kt_tables.specs.Calls.{on_rollback}
-use Rattle.kt_seen.specs.Seen.{no_part}
-use Rattle.kt_seen.specs.CallTests.{call_of_decision}
-use Rattle.kt_values.specs.Values.{closing as acts_of_closing}
-use Rattle.kt_names.specs.declared.names.InstName.{InstName}
-use Rattle.kt_names.specs.declared.rows.NamedEvent.TheVariants.{Decided, Closed}
+use Rattle.kt_machine.specs.Seen.{no_part}
+use Rattle.kt_machine.specs.CallTests.{call_of_decision}
+use Rattle.kt_machine.specs.Values.{closing as acts_of_closing}
+use Rattle.kt_spacetime.specs.declared.names.InstName.{InstName}
+use Rattle.kt_spacetime.specs.declared.named_rows.NamedEvent.TheVariants.{Decided, Closed}
 use Rattle.kt_net.specs.declared.parcels.NodeParcel.{NodeParcel}
 use Rattle.kt_net.specs.declared.parcels.NodeParcel.TheVariants.{App, Ask, Reply, Decide}
 use Rattle.kt_net.specs.Nodes.{NodeLists, NodeState, Doing, putting, with_one}

@@ -3,13 +3,13 @@ use Rattle.std.specs.Prelude.{ℕ, ◌+◌, Bool, true, false, if◌then◌else�
 use Rattle.kt_base.specs.declared.words.Kind.TheVariants.{Checkpoint, Rollback}
 use Rattle.kt_tables.specs.Calls.{on_tentative}
 use Rattle.kt_protocol.specs.Joining.{kind_for}
-use Rattle.kt_seen.specs.CallTests.{is_asked_in_checkpoint, checkpoint_label, is_asked_in_rollback, rollback_label}
-use Rattle.kt_seen.specs.SeenJoining.{new_part, no_note, part_after_ask}
-use Rattle.kt_values.specs.Values.{Keep}
-use Rattle.kt_names.specs.declared.names.InstName.{InstName}
-use Rattle.kt_names.specs.declared.rows.NamedCause.{NamedCause}
-use Rattle.kt_names.specs.declared.rows.NamedEvent.TheVariants.{Began, Took, Ready, Unwilling}
-use Rattle.kt_names.specs.Names.{name_of}
+use Rattle.kt_machine.specs.CallTests.{is_asked_in_checkpoint, checkpoint_label, is_asked_in_rollback, rollback_label}
+use Rattle.kt_machine.specs.SeenJoining.{new_part, no_note, part_after_ask}
+use Rattle.kt_machine.specs.Values.{Keep}
+use Rattle.kt_spacetime.specs.declared.names.InstName.{InstName}
+use Rattle.kt_spacetime.specs.declared.named_rows.NamedCause.{NamedCause}
+use Rattle.kt_spacetime.specs.declared.named_rows.NamedEvent.TheVariants.{Began, Took, Ready, Unwilling}
+use Rattle.kt_meaning.specs.Names.{name_of}
 use Rattle.kt_net.specs.declared.parcels.NodeParcel.TheVariants.{Ask, Reply}
 use Rattle.kt_net.specs.Nodes.{NodeState, Doing, nothing, putting, with_one}
 

@@ -1,12 +1,12 @@
 -- The rules of messages, failures and refused commands.
 use Rattle.std.specs.Prelude.{ℕ, ℤ, ◌+◌, if◌then◌else◌, Bool, true, false, List, [], ◌∷◌, ◌++◌}
 use Rattle.kt_base.specs.declared.words.Verb.{Verb}
-use Rattle.kt_cuts.specs.Past.{at_one}
+use Rattle.kt_meaning.specs.Past.{at_one}
 use Rattle.kt_tables.specs.Calls.{sent, received}
-use Rattle.kt_values.specs.Values.{Apply, Drop}
-use Rattle.kt_names.specs.declared.rows.NamedCause.{NamedCause}
-use Rattle.kt_names.specs.declared.rows.NamedCause.TheVariants.{Down, NoSave}
-use Rattle.kt_names.specs.declared.rows.NamedEvent.TheVariants.{Sent, Received, Dropped, Failed, Refused}
+use Rattle.kt_machine.specs.Values.{Apply, Drop}
+use Rattle.kt_spacetime.specs.declared.named_rows.NamedCause.{NamedCause}
+use Rattle.kt_spacetime.specs.declared.named_rows.NamedCause.TheVariants.{Down, NoSave}
+use Rattle.kt_spacetime.specs.declared.named_rows.NamedEvent.TheVariants.{Sent, Received, Dropped, Failed, Refused}
 use Rattle.kt_net.specs.declared.parcels.NodeParcel.{NodeParcel}
 use Rattle.kt_net.specs.declared.parcels.NodeParcel.TheVariants.{App, Ask, Reply, Decide}
 use Rattle.kt_net.specs.Nodes.{NodeState, Doing, nothing, with_one}

@@ -1,13 +1,13 @@
 -- What a node does at each input.
 use Rattle.std.specs.Prelude.{ℕ, ◌==◌, ◌&&◌, not, nat_lt, if◌then◌else◌, Bool, true, false, Option, Some, None, is_none}
 use Rattle.kt_base.specs.declared.words.Verb.TheVariants as verb
-use Rattle.kt_cuts.specs.Past.{at_one, is_rollback_kind}
+use Rattle.kt_meaning.specs.Past.{at_one, is_rollback_kind}
 use Rattle.kt_protocol.specs.Steps.{verb_for}
-use Rattle.kt_seen.specs.CallTests.{must_take, must_roll}
-use Rattle.kt_seen.specs.SeenJoining.{no_note}
-use Rattle.kt_seen.specs.SeenReplies.{part_after_reply}
-use Rattle.kt_names.specs.declared.names.InstName.{InstName}
-use Rattle.kt_names.specs.declared.rows.NamedCause.TheVariants.{Busy, Down}
+use Rattle.kt_machine.specs.CallTests.{must_take, must_roll}
+use Rattle.kt_machine.specs.SeenJoining.{no_note}
+use Rattle.kt_machine.specs.SeenReplies.{part_after_reply}
+use Rattle.kt_spacetime.specs.declared.names.InstName.{InstName}
+use Rattle.kt_spacetime.specs.declared.named_rows.NamedCause.TheVariants.{Busy, Down}
 use Rattle.kt_net.specs.declared.parcels.NodeParcel.{NodeParcel}
 use Rattle.kt_net.specs.declared.parcels.NodeParcel.TheVariants.{App, Ask, Reply, Decide}
 use Rattle.kt_net.specs.Nodes.{NodeState, Input, Send, Begin, Fail, Held, Comes, Doing, nothing, is_in_rollback}

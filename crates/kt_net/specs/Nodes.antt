@@ -1,10 +1,10 @@
 -- What one process's manager has, what comes to it, and what it does then.
 use Rattle.std.specs.Prelude.{ℕ, ℤ, ◌==◌, ◌&&◌, if◌then◌else◌, Bool, Option, is_some, List, [], ◌∷◌, ◌++◌}
 use Rattle.kt_tables.specs.Calls.{Call}
-use Rattle.kt_seen.specs.Seen.{SeenPart}
-use Rattle.kt_values.specs.Values.{Act}
-use Rattle.kt_names.specs.declared.names.InstName.{InstName}
-use Rattle.kt_names.specs.declared.rows.NamedEvent.{NamedEvent}
+use Rattle.kt_machine.specs.Seen.{SeenPart}
+use Rattle.kt_machine.specs.Values.{Act}
+use Rattle.kt_spacetime.specs.declared.names.InstName.{InstName}
+use Rattle.kt_spacetime.specs.declared.named_rows.NamedEvent.{NamedEvent}
 use Rattle.kt_net.specs.declared.parcels.NodeParcel.{NodeParcel}
 
 -- a list of parcels for each other process

@@ -4,17 +4,17 @@ ghost use Rattle.std.specs.Prelude.{◌≡◌, ℕ, Some, List, map};
 ghost use Rattle.kt_spacetime.specs.declared.event.Event.{Event};
 ghost use Rattle.kt_tables.specs.Calls.{Speaks};
 ghost use Rattle.kt_protocol.specs.States.{ProtocolStep, opening};
-ghost use Rattle.kt_closing.specs.LateSteps.{late_run};
-ghost use Rattle.kt_seen.specs.Seen.{seen};
-ghost use Rattle.kt_names.specs.Names.{numbered};
-ghost use Rattle.kt_values.specs.SeenActs.{seen_acts};
-ghost use Rattle.kt_plans.specs.Headline.{IsPromised, IsCertified};
+ghost use Rattle.kt_protocol.specs.LateSteps.{late_run};
+ghost use Rattle.kt_machine.specs.Seen.{seen};
+ghost use Rattle.kt_meaning.specs.Names.{numbered};
+ghost use Rattle.kt_machine.specs.SeenActs.{seen_acts};
+ghost use Rattle.kt_meaning.specs.Promised.{IsPromised, IsCertified};
 ghost use Rattle.kt_net.specs.Nets.{net_step, net_run, opening_net, net_acts};
 ghost use Rattle.kt_net.specs.Clocks.{ClockedRow, clocked_run, opening_clocked, rows_of, AreByClock};
 ghost use Rattle.kt_net.specs.Erasing.{name_in, erased_node, erased_parcels, rows_from};
 
 /// For every number of nodes, every label that they count on from, and every list of steps: a net is what is seen of
-/// kt_closing's machine after the same steps, by the names that its log gives; and its rows are that log.
+/// kt_protocol's machine after the same steps, by the names that its log gives; and its rows are that log.
 pub fn nets_are_runs()
     ensures nodes { (n first : ℕ) (steps : List ProtocolStep) (p : ℕ) →
         (net_run (opening_net n first) steps).nodes p
@@ -42,12 +42,12 @@ pub fn logs_of_nets()
         numbered (rows_from first (net_run (opening_net n first) steps).rows) ≡ Some log → IsCertified log }
 {
     nets_are_runs();
-    kt_closing::logs_of_late_runs();
-    kt_plans::certificates_of_promised_logs();
+    kt_protocol::logs_of_late_runs();
+    kt_meaning::certificates_of_promised_logs();
 }
 
 /// At each step of a net the acts of the node that steps are those of the process that steps, by what is seen of
-/// kt_closing's machine: so what is due to an object of a run is due to one of a net.
+/// kt_protocol's machine: so what is due to an object of a run is due to one of a net.
 pub fn acts_of_nets()
     ensures same { (n first : ℕ) (steps : List ProtocolStep) (x : ProtocolStep) →
         net_acts (net_run (opening_net n first) steps) x ≡ seen_acts (seen first (late_run (opening n) steps)) x }

@@ -3,7 +3,7 @@
 ghost use Rattle.std.specs.Prelude.{◌≡◌};
 
 use kt_base::{Kind, Label};
-use kt_names::{Count, InstName};
+use kt_spacetime::{Count, InstName};
 
 /// What one node sends to another: an application message, or a step of an instance, by names.
 #[derive(Clone, Copy, Debug, PartialEq, Eq, Hash)]

@@ -2,8 +2,8 @@
 
 ghost use Rattle.std.specs.Prelude.{◌≡◌, Some, [], ◌∷◌, map};
 ghost use Rattle.kt_protocol.specs.WorkedRuns as worked;
-ghost use Rattle.kt_names.specs.Names.{named, numbered};
-ghost use Rattle.kt_names.specs.WorkedNames.{two_processes_by_name};
+ghost use Rattle.kt_meaning.specs.Names.{named, numbered};
+ghost use Rattle.kt_meaning.specs.WorkedNames.{two_processes_by_name};
 ghost use Rattle.kt_net.specs.Nets.{net_run, opening_net};
 ghost use Rattle.kt_net.specs.Clocks.{clocked_run, opening_clocked};
 ghost use Rattle.kt_net.specs.Erasing.{rows_from};

@@ -4,9 +4,9 @@ use Rattle.std.specs.Prelude.{◌==◌, if◌then◌else◌, Contains}
 use Rattle.std.proofs.lemmas.Bool.Decides.{nat_tests}
 use Rattle.kt_base.specs.declared.words.Kind.{Kind}
 use Rattle.kt_tables.specs.Peers.{IsCohort}
-use Rattle.kt_parts.specs.Asks.{is_asked_in}
+use Rattle.kt_process.specs.Asks.{is_asked_in}
 use Rattle.kt_process.proofs.Cohorts.{Pairs, cohort_asked}
-use Rattle.kt_names.specs.declared.names.InstName.{InstName}
+use Rattle.kt_spacetime.specs.declared.names.InstName.{InstName}
 use Rattle.kt_net.specs.declared.parcels.NodeParcel.TheVariants.{Ask}
 use Rattle.kt_node.specs.Effects.{label_for, ask_with}
 

@@ -8,23 +8,23 @@ use Rattle.kt_base.specs.declared.words.Cause.TheVariants as cause
 use Rattle.kt_base.specs.declared.words.Kind.{Kind}
 use Rattle.kt_base.specs.declared.words.Kind.TheVariants.{Checkpoint, Rollback}
 use Rattle.kt_base.specs.declared.words.Verb.TheVariants as verb
-use Rattle.kt_cuts.specs.Past.{is_rollback_kind}
+use Rattle.kt_meaning.specs.Past.{is_rollback_kind}
 use Rattle.kt_fifo.specs.Channels.{channel}
-use Rattle.kt_lists.specs.Kept.{kept_of}
-use Rattle.kt_parts.specs.declared.actions.Action.{Action}
-use Rattle.kt_parts.specs.declared.actions.Then.{Then}
+use Rattle.kt_system.specs.Kept.{kept_of}
+use Rattle.kt_process.specs.declared.actions.Action.{Action}
+use Rattle.kt_process.specs.declared.actions.Then.{Then}
 use Rattle.kt_protocol.specs.Replies.{unable_cause}
 use Rattle.kt_tables.specs.Calls.{on_tentative}
 use Rattle.kt_tables.specs.Peers.{IsCohort}
-use Rattle.kt_seen.specs.CallTests.{is_asked_in_checkpoint, is_asked_in_rollback}
-use Rattle.kt_seen.specs.SeenJoining.{new_part, no_note}
-use Rattle.kt_seen.specs.Seen.{SeenProcess}
+use Rattle.kt_machine.specs.CallTests.{is_asked_in_checkpoint, is_asked_in_rollback}
+use Rattle.kt_machine.specs.SeenJoining.{new_part, no_note}
+use Rattle.kt_machine.specs.Seen.{SeenProcess}
 use Rattle.kt_process.specs.ProcessStates.{ProcessState}
 use Rattle.kt_process.specs.Shown.{IsSeenAs, IsProcessJoined, BeginsAs, HearsAs, begin_cause, label_by, goes_on, no_mark}
 use Rattle.kt_system.specs.Shown.{begin_verb}
-use Rattle.kt_names.specs.declared.names.InstName.{InstName}
-use Rattle.kt_names.specs.declared.rows.NamedEvent.{NamedEvent}
-use Rattle.kt_names.specs.declared.rows.NamedEvent.TheVariants.{Began}
+use Rattle.kt_spacetime.specs.declared.names.InstName.{InstName}
+use Rattle.kt_spacetime.specs.declared.named_rows.NamedEvent.{NamedEvent}
+use Rattle.kt_spacetime.specs.declared.named_rows.NamedEvent.TheVariants.{Began}
 use Rattle.kt_net.specs.Erasing.{erased_parcel}
 use Rattle.kt_net.specs.Nodes.{NodeLists, NodeState, Doing}
 use Rattle.kt_net.specs.NodeClosing.{settling}

@@ -5,16 +5,16 @@ use Rattle.kt_base.specs.declared.words.Cause.{Cause}
 use Rattle.kt_base.specs.declared.words.Cause.TheVariants as cause
 use Rattle.kt_base.specs.declared.words.Kind.{Kind}
 use Rattle.kt_base.specs.declared.words.Kind.TheVariants.{Checkpoint, Rollback}
-use Rattle.kt_cuts.specs.Past.{at_one}
+use Rattle.kt_meaning.specs.Past.{at_one}
 use Rattle.kt_protocol.specs.Replies.{unable_cause}
-use Rattle.kt_parts.specs.Answers.{replies, joins}
-use Rattle.kt_seen.specs.CallTests.{must_take, must_roll}
-use Rattle.kt_seen.specs.Seen.{SeenProcess}
-use Rattle.kt_seen.specs.SeenJoining.{no_note, part_after_ask}
+use Rattle.kt_process.specs.Answers.{replies, joins}
+use Rattle.kt_machine.specs.CallTests.{must_take, must_roll}
+use Rattle.kt_machine.specs.Seen.{SeenProcess}
+use Rattle.kt_machine.specs.SeenJoining.{no_note, part_after_ask}
 use Rattle.kt_process.specs.Shown.{IsSeenAs, answer_as, noted_as, label_by}
-use Rattle.kt_names.specs.declared.names.InstName.{InstName}
-use Rattle.kt_names.specs.declared.rows.NamedCause.TheVariants.{Busy}
-use Rattle.kt_names.specs.declared.rows.NamedEvent.{NamedEvent}
+use Rattle.kt_spacetime.specs.declared.names.InstName.{InstName}
+use Rattle.kt_spacetime.specs.declared.named_rows.NamedCause.TheVariants.{Busy}
+use Rattle.kt_spacetime.specs.declared.named_rows.NamedEvent.{NamedEvent}
 use Rattle.kt_plan.specs.declared.steps.Act.TheVariants as answered
 use Rattle.kt_net.specs.declared.parcels.NodeParcel.TheVariants as put
 use Rattle.kt_net.specs.Nodes.{NodeState, Doing, nothing}

@@ -4,16 +4,16 @@ use Rattle.std.specs.Prelude.{if◌then◌else◌}
 use Rattle.std.proofs.Math.Path.{fun_ext}
 use Rattle.std.proofs.lemmas.Bool.{cases_eq}
 use Rattle.std.proofs.lemmas.List.{map-append, drop-map}
-use Rattle.kt_cuts.specs.Past.{at_one}
+use Rattle.kt_meaning.specs.Past.{at_one}
 use Rattle.kt_protocol.proofs.Updates.{is_same, is_other}
 use Rattle.kt_fifo.specs.declared.parcels.Parcel.{Parcel}
 use Rattle.kt_fifo.specs.Channels.{ChannelLists, channel, at_pair}
-use Rattle.kt_seen.specs.Seen.{SeenLists}
-use Rattle.kt_seen.specs.ListChanges.{trims, low}
-use Rattle.kt_lists.proofs.Ranges.{back_in, gone}
+use Rattle.kt_machine.specs.Seen.{SeenLists}
+use Rattle.kt_machine.specs.ListChanges.{trims, low}
+use Rattle.kt_system.proofs.Ranges.{back_in, gone}
 use Rattle.kt_process.specs.ProcessStates.{ProcessState}
 use Rattle.kt_process.specs.Shown.{IsSeenAs}
-use Rattle.kt_names.specs.declared.names.InstName.{InstName}
+use Rattle.kt_spacetime.specs.declared.names.InstName.{InstName}
 use Rattle.kt_net.specs.declared.parcels.NodeParcel.{NodeParcel}
 use Rattle.kt_net.specs.Nodes.{NodeLists, NodeState, with_one}
 use Rattle.kt_net.specs.NodeClosing.{forgets, within, after_checkpoint, after_rollback}

@@ -2,16 +2,16 @@
 use Rattle.std.specs.Prelude.{◌==◌, ◌&&◌, ◌-◌, if◌then◌else◌, Option, Some, None}
 use Rattle.std.proofs.Common.{◌≡◌, ◌∙◌, ℕ, zero, suc, Bool, true, false, refl, sym, ap, subst, arith}
 use Rattle.std.proofs.lemmas.Bool.Decides.{nat_tests}
-use Rattle.kt_parts.specs.Rules.{last_action}
-use Rattle.kt_parts.specs.declared.actions.Action.TheVariants as what
+use Rattle.kt_process.specs.PartRules.{last_action}
+use Rattle.kt_process.specs.declared.actions.Action.TheVariants as what
 use Rattle.kt_process.specs.ProcessStates.{ProcessState, part_of_side}
 use Rattle.kt_process.specs.Turns.{reply_of}
 use Rattle.kt_process.specs.declared.side.Side.{Side}
 use Rattle.kt_process.specs.declared.side.Side.TheVariants as side
 use Rattle.kt_process.specs.Shown.{IsSeenAs, part_shown, counted_as}
-use Rattle.kt_seen.specs.Seen.{SeenPart, SeenProcess}
-use Rattle.kt_seen.specs.SeenReplies.{part_after_reply}
-use Rattle.kt_names.specs.declared.names.InstName.{InstName}
+use Rattle.kt_machine.specs.Seen.{SeenPart, SeenProcess}
+use Rattle.kt_machine.specs.SeenReplies.{part_after_reply}
+use Rattle.kt_spacetime.specs.declared.names.InstName.{InstName}
 use Rattle.kt_net.specs.declared.parcels.NodeParcel.TheVariants as put
 use Rattle.kt_net.specs.Nodes.{NodeState, nothing}
 use Rattle.kt_net.specs.NodeClosing.{closing, settling}

@@ -3,16 +3,16 @@ use Rattle.std.proofs.Common.{◌≡◌, ◌∙◌, ℕ, Bool, true, false, Opti
 use Rattle.std.specs.Prelude.{◌==◌, if◌then◌else◌}
 use Rattle.std.proofs.lemmas.List.{append-nil}
 use Rattle.kt_base.specs.declared.words.Kind.{Kind}
-use Rattle.kt_parts.specs.Rules.{way_alone}
-use Rattle.kt_parts.specs.declared.actions.Then.TheVariants.{Wait, Answer, Commit}
+use Rattle.kt_process.specs.PartRules.{way_alone}
+use Rattle.kt_process.specs.declared.actions.Then.TheVariants.{Wait, Answer, Commit}
 use Rattle.kt_plan.specs.declared.steps.Act.{Act as AnsweredAct}
 use Rattle.kt_plan.specs.declared.steps.Act.TheVariants as answered
 use Rattle.kt_tables.specs.Peers.{IsCohort}
-use Rattle.kt_values.specs.Values.{Act, closing as acts_of_closing}
+use Rattle.kt_machine.specs.Values.{Act, closing as acts_of_closing}
 use Rattle.kt_process.specs.Shown.{goes_on}
-use Rattle.kt_names.specs.declared.names.InstName.{InstName}
-use Rattle.kt_names.specs.declared.rows.NamedEvent.{NamedEvent}
-use Rattle.kt_names.specs.declared.rows.NamedEvent.TheVariants.{Decided, Closed}
+use Rattle.kt_spacetime.specs.declared.names.InstName.{InstName}
+use Rattle.kt_spacetime.specs.declared.named_rows.NamedEvent.{NamedEvent}
+use Rattle.kt_spacetime.specs.declared.named_rows.NamedEvent.TheVariants.{Decided, Closed}
 use Rattle.kt_net.specs.declared.parcels.NodeParcel.TheVariants as put
 use Rattle.kt_net.specs.Nodes.{NodeState, Doing, with_one}
 use Rattle.kt_net.specs.NodeClosing.{closing, ending, settling}

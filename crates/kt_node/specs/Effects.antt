@@ -2,8 +2,8 @@
 use Rattle.std.specs.Prelude.{◌≡◌, ℕ, ◌==◌, if◌then◌else◌, Option, Some, None, List, [], ◌∷◌}
 use Rattle.kt_base.specs.Sets.{has}
 use Rattle.kt_base.specs.declared.words.Kind.{Kind}
-use Rattle.kt_names.specs.declared.names.InstName.{InstName}
-use Rattle.kt_names.specs.declared.rows.NamedEvent.{NamedEvent}
+use Rattle.kt_spacetime.specs.declared.names.InstName.{InstName}
+use Rattle.kt_spacetime.specs.declared.named_rows.NamedEvent.{NamedEvent}
 use Rattle.kt_net.specs.declared.parcels.NodeParcel.{NodeParcel}
 use Rattle.kt_net.specs.declared.parcels.NodeParcel.TheVariants.{Ask, Decide}
 use Rattle.kt_net.specs.Nodes.{Doing}

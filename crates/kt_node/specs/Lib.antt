@@ -1,4 +1,4 @@
-pub use Rattle.kt_values.specs.SeenActs
+pub use Rattle.kt_machine.specs.SeenActs
 pub use Rattle.kt_net.specs.Nodes
 pub mod Managers
 pub mod Effects

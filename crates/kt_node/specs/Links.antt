@@ -1,6 +1,6 @@
 -- A manager whose parcels have numbers and whose steps have clocks.
 use Rattle.std.specs.Prelude.{◌≡◌, ◌+◌, ◌-◌, ◌^◌, ◌<◌, ◌≤◌, ℕ, max, Option, None, Result, Ok, Err, List, length, slice_index}
-use Rattle.kt_cuts.specs.Past.{at_one}
+use Rattle.kt_meaning.specs.Past.{at_one}
 use Rattle.kt_net.specs.Nodes.{Doing}
 use Rattle.kt_node.specs.declared.node.Output.{Output}
 use Rattle.kt_node.specs.declared.node.Taken.{Taken}

@@ -1,11 +1,11 @@
 -- What a manager holds, and which state of a node that is.
 use Rattle.std.specs.Prelude.{◌≡◌, ℕ, ◌<◌, ◌≤◌, ◌^◌, if◌then◌else◌, Bool, Option, Some, None, length}
 use Rattle.kt_fifo.specs.Channels.{ChannelLists, channel, spare_of}
-use Rattle.kt_seen.specs.Seen.{SeenProcess}
+use Rattle.kt_machine.specs.Seen.{SeenProcess}
 use Rattle.kt_process.specs.ProcessStates.{ProcessState}
 use Rattle.kt_process.specs.Shown.{IsSeenAs}
-use Rattle.kt_names.specs.declared.names.InstName.{InstName}
-use Rattle.kt_names.specs.Names.{name_of}
+use Rattle.kt_spacetime.specs.declared.names.InstName.{InstName}
+use Rattle.kt_meaning.specs.Names.{name_of}
 use Rattle.kt_net.specs.Nodes.{NodeLists, NodeState}
 use Rattle.kt_net.specs.NodeSteps.{is_one}
 use Rattle.kt_net.specs.NodeClosing.{after_checkpoint, after_rollback}

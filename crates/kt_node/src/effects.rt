@@ -7,10 +7,10 @@ ghost use Rattle.kt_node.specs.Managers.{ManagerState, ShowsNode};
 ghost use Rattle.kt_node.specs.Effects.{label_for, put_to, IsDone};
 
 use kt_base::{Kind, Label, ProcNo, ProcSet};
-use kt_names::{InstName, NamedEvent};
 use kt_net::NodeParcel;
-use kt_parts::Asks;
 use kt_plan::Act;
+use kt_process::Asks;
+use kt_spacetime::{InstName, NamedEvent};
 
 /// The parcels of one step: one at most for each process.
 #[derive(Drop)]

@@ -11,9 +11,9 @@ ghost use Rattle.kt_node.specs.Faults.{stranger};
 use crate::faults::ManagerFault;
 use kt_base::{InstNo, Label, Memory, ProcNo};
 use kt_fifo::Channels;
-use kt_lists::make_room_back;
-use kt_names::InstName;
 use kt_process::Process;
+use kt_spacetime::InstName;
+use kt_system::make_room_back;
 use std::alloc::Global;
 use std::marker::Model;
 

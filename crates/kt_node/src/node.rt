@@ -2,7 +2,7 @@
 
 ghost use Rattle.std.specs.Prelude.{◌≡◌, ◌<◌, ◌≤◌, ◌+◌, ◌-◌, ◌^◌, ℕ, max, length, slice_index, Some, IfOk, IfErr, IfSome, OnErr, IsErrOf};
 ghost use Rattle.std.specs.Option.{option_to_list, option_map};
-ghost use Rattle.kt_cuts.specs.Past.{at_one, is_rollback_kind};
+ghost use Rattle.kt_meaning.specs.Past.{at_one, is_rollback_kind};
 ghost use Rattle.kt_tables.specs.Calls.{Speaks};
 ghost use Rattle.kt_net.specs.Nodes.{NodeState, Send, Begin, Fail, Held, Comes};
 ghost use Rattle.kt_net.specs.NodeSteps.{node_after};

@@ -2,3 +2,8 @@ pub mod NumbersLemmas
 pub mod ReliableKinds
 pub mod SavedOnce
 pub mod ValuesStay
+pub mod Acted
+pub mod CastFacts
+pub mod Lists
+pub mod Rejected
+pub mod Stopped

@@ -2,3 +2,8 @@ pub mod Bytes
 pub mod Reliable
 pub mod SavedStates
 pub mod Value
+pub mod Holdings
+pub mod Fits
+pub mod Casts
+pub mod Refusals
+pub mod Faults

@@ -8,16 +8,15 @@ use Rattle.std.proofs.lemmas.List.{take-append-drop, take_all, drop-drop}
 use Rattle.std.proofs.lemmas.List.Sums.{fold-append}
 use Rattle.kt_spacetime.specs.declared.event.Event.{Event}
 use Rattle.kt_spacetime.specs.declared.event.Event.TheVariants.{Sent, Received, Dropped, Began, Took, Ready, Unwilling, Decided, Closed, Failed, Refused}
-use Rattle.kt_cuts.specs.declared.deeds.Deed.TheVariants as deed
-use Rattle.kt_cuts.specs.Past.{Past, past, start, after}
-use Rattle.kt_cuts.specs.Legal.{IsLegal, has_deed, is_undelivered}
-use Rattle.kt_cuts.specs.Messages.{row_at, IsMessage}
-use Rattle.kt_cuts.specs.Traces.{trace_of}
-use Rattle.kt_cuts.proofs.LegalLogs.{kept, legal_take}
-use Rattle.kt_cuts.proofs.Lists.{get_drop, get_take, any_at, deed_place, has_from_place}
-use Rattle.kt_cuts.proofs.Places.{Comes, old, sent, received, comes, rowed, one_message}
-use Rattle.kt_cuts.proofs.RowRules.{both, neither, may_receive}
-use Rattle.kt_cuts.proofs.Traced.{next_unbroken}
+use Rattle.kt_spacetime.specs.declared.deeds.Deed.TheVariants as deed
+use Rattle.kt_meaning.specs.Past.{Past, past, start, after}
+use Rattle.kt_meaning.specs.Legal.{IsLegal, has_deed, is_undelivered}
+use Rattle.kt_meaning.specs.Messages.{row_at, IsMessage}
+use Rattle.kt_rules.specs.Traces.{trace_of}
+use Rattle.kt_meaning.proofs.LegalLogs.{kept, legal_take, next_unbroken}
+use Rattle.kt_meaning.proofs.Lists.{get_drop, get_take, any_at, deed_place, has_from_place}
+use Rattle.kt_meaning.proofs.Places.{Comes, old, sent, received, comes, rowed, one_message}
+use Rattle.kt_meaning.proofs.RowRules.{both, neither, may_receive}
 use Rattle.kt_picture.specs.declared.shown.Shown.{Shown}
 use Rattle.kt_picture.specs.Arrows.{StaysReceived, has_arrow}
 use Rattle.kt_picture.specs.Fates.{is_send_undone, has_no_receive, receives, is_receive_undone, is_sent_in_transit}

@@ -5,16 +5,14 @@ use Rattle.std.proofs.lemmas.Bool.{cases_eq}
 use Rattle.std.proofs.lemmas.Bool.Decides.{nat_tests}
 use Rattle.kt_spacetime.specs.declared.event.Event.{Event}
 use Rattle.kt_spacetime.specs.declared.event.Event.TheVariants.{Sent, Received, Dropped, Began, Took, Ready, Unwilling, Decided, Closed, Failed, Refused}
-use Rattle.kt_cuts.specs.Past.{Past, past, after, at_one, at_pair}
-use Rattle.kt_cuts.specs.Legal.{IsLegal, broken_rule}
-use Rattle.kt_cuts.specs.Messages.{row_at}
-use Rattle.kt_cuts.proofs.Items.{take_item}
-use Rattle.kt_cuts.proofs.LegalLogs.{past_push, legal_take}
-use Rattle.kt_cuts.proofs.Positions.{Positions, positions}
-use Rattle.kt_cuts.proofs.RowRules.{may_take, may_get_ready, may_decide}
-use Rattle.kt_cuts.proofs.Shown.{at_same, at_other}
-use Rattle.kt_cuts.proofs.SortedFacts.{some_same}
-use Rattle.kt_cuts.proofs.Traced.{next_unbroken}
+use Rattle.kt_meaning.specs.Past.{Past, past, after, at_one, at_pair}
+use Rattle.kt_meaning.specs.Legal.{IsLegal, broken_rule}
+use Rattle.kt_meaning.specs.Messages.{row_at}
+use Rattle.kt_meaning.proofs.Items.{take_item, some_same}
+use Rattle.kt_meaning.proofs.LegalLogs.{past_push, legal_take, next_unbroken}
+use Rattle.kt_meaning.proofs.Positions.{Positions, positions}
+use Rattle.kt_meaning.proofs.RowRules.{may_take, may_get_ready, may_decide}
+use Rattle.kt_meaning.proofs.Shown.{at_same, at_other}
 use Rattle.kt_picture.proofs.DecisionFacts.{Decides, now, kept, decides, decision_stays}
 
 -- the last `took` row of a process among the first so many, with its instance, its position and its column

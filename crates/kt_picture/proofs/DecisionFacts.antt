@@ -8,10 +8,10 @@ use Rattle.std.proofs.lemmas.Option.{slice_get_within, get_or_from_slice_get}
 use Rattle.std.proofs.Math.Seq.{take-add}
 use Rattle.kt_spacetime.specs.declared.event.Event.{Event}
 use Rattle.kt_spacetime.specs.declared.event.Event.TheVariants.{Sent, Received, Dropped, Began, Took, Ready, Unwilling, Decided, Closed, Failed, Refused}
-use Rattle.kt_cuts.specs.Past.{Past, past, start, after, at_one}
-use Rattle.kt_cuts.specs.Legal.{IsLegal, IsLegalAfter, broken_rule}
-use Rattle.kt_cuts.proofs.RowRules.{may_decide}
-use Rattle.kt_cuts.proofs.Shown.{at_same, at_other}
+use Rattle.kt_meaning.specs.Past.{Past, past, start, after, at_one}
+use Rattle.kt_meaning.specs.Legal.{IsLegal, IsLegalAfter, broken_rule}
+use Rattle.kt_meaning.proofs.RowRules.{may_decide}
+use Rattle.kt_meaning.proofs.Shown.{at_same, at_other}
 use Rattle.kt_picture.proofs.ShownFacts.{place_in}
 
 -- a row decides an instance so, or leaves its decision as it was

@@ -7,20 +7,19 @@ use Rattle.std.proofs.lemmas.Bool.Decides.{nat_tests}
 use Rattle.std.proofs.lemmas.List.{length_push}
 use Rattle.kt_spacetime.specs.declared.event.Event.{Event}
 use Rattle.kt_spacetime.specs.declared.event.Event.TheVariants.{Sent, Received, Dropped}
-use Rattle.kt_cuts.specs.declared.deeds.Deed.{Deed}
-use Rattle.kt_cuts.specs.declared.deeds.Deed.TheVariants as deed
-use Rattle.kt_cuts.specs.declared.traces.Trace.{Trace}
-use Rattle.kt_cuts.specs.Past.{Past, past, after}
-use Rattle.kt_cuts.specs.Legal.{IsLegal, broken_rule, is_undelivered}
-use Rattle.kt_cuts.specs.Standing.{parties_of_row}
-use Rattle.kt_cuts.specs.Traces.{place_of, trace_between, trace_of}
-use Rattle.kt_cuts.proofs.Items.{get_seam}
-use Rattle.kt_cuts.proofs.LegalLogs.{kept, legal_last, past_push, rows_length}
-use Rattle.kt_cuts.proofs.Lists.{deed_place, get_kept}
-use Rattle.kt_cuts.proofs.RowRules.{both, may_receive, not_true}
-use Rattle.kt_cuts.proofs.Shown.{at_same}
-use Rattle.kt_cuts.proofs.SortedFacts.{some_same}
-use Rattle.kt_cuts.proofs.Traced.{place_at, place_none}
+use Rattle.kt_spacetime.specs.declared.deeds.Deed.{Deed}
+use Rattle.kt_spacetime.specs.declared.deeds.Deed.TheVariants as deed
+use Rattle.kt_rules.specs.declared.traces.Trace.{Trace}
+use Rattle.kt_meaning.specs.Past.{Past, past, after}
+use Rattle.kt_meaning.specs.Legal.{IsLegal, broken_rule, is_undelivered}
+use Rattle.kt_rules.specs.Standing.{parties_of_row}
+use Rattle.kt_rules.specs.Traces.{place_of, trace_between, trace_of}
+use Rattle.kt_meaning.proofs.Items.{get_seam, some_same}
+use Rattle.kt_meaning.proofs.LegalLogs.{kept, legal_last, past_push, rows_length}
+use Rattle.kt_meaning.proofs.Lists.{deed_place, get_kept}
+use Rattle.kt_meaning.proofs.RowRules.{both, may_receive, not_true}
+use Rattle.kt_meaning.proofs.Shown.{at_same}
+use Rattle.kt_rules.proofs.Traced.{place_at, place_none}
 use Rattle.kt_walk.specs.Arrivals.{message_of}
 use Rattle.kt_walk.specs.Keeping.{kept_trace}
 use Rattle.kt_walk.proofs.FitFacts.{fit, same_parties}

@@ -4,12 +4,12 @@ use Rattle.std.specs.Prelude.{◌||◌}
 use Rattle.std.specs.Option.{option_map, option_flatten}
 use Rattle.kt_spacetime.specs.declared.event.Event.{Event}
 use Rattle.kt_spacetime.specs.declared.event.Event.TheVariants.{Sent}
-use Rattle.kt_cuts.specs.declared.deeds.Deed.{Deed}
-use Rattle.kt_cuts.specs.Past.{past}
-use Rattle.kt_cuts.specs.Legal.{has_deed, is_deed}
-use Rattle.kt_cuts.specs.Messages.{row_at}
-use Rattle.kt_cuts.specs.Standing.{parties_of_row}
-use Rattle.kt_cuts.specs.Traces.{trace_of, trace_between, place_of}
+use Rattle.kt_spacetime.specs.declared.deeds.Deed.{Deed}
+use Rattle.kt_meaning.specs.Past.{past}
+use Rattle.kt_meaning.specs.Legal.{has_deed, is_deed}
+use Rattle.kt_meaning.specs.Messages.{row_at}
+use Rattle.kt_rules.specs.Standing.{parties_of_row}
+use Rattle.kt_rules.specs.Traces.{trace_of, trace_between, place_of}
 use Rattle.kt_picture.specs.KnownAtRow.{KnownAtRow, seen_after, shown_rows}
 
 -- as many are shown as there are rows

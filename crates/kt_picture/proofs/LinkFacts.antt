@@ -4,8 +4,8 @@ use Rattle.std.specs.Prelude.{◌||◌, find}
 use Rattle.std.specs.List.{slice_get}
 use Rattle.std.specs.Option.{option_map, option_or}
 use Rattle.std.proofs.lemmas.List.Folds.{find-append}
-use Rattle.kt_cuts.proofs.Items.{take_item}
-use Rattle.kt_chain.specs.declared.certificate.Certificate.{Certificate}
+use Rattle.kt_meaning.proofs.Items.{take_item}
+use Rattle.kt_spacetime.specs.declared.certificate.Certificate.{Certificate}
 use Rattle.kt_picture.specs.Evidence.{has_chained, chained_by}
 use Rattle.kt_picture.specs.Links.{NotesMore}
 

@@ -7,13 +7,13 @@ use Rattle.std.proofs.lemmas.List.{length_push}
 use Rattle.std.proofs.lemmas.Option.{slice_get_within}
 use Rattle.kt_spacetime.specs.declared.event.Event.{Event}
 use Rattle.kt_spacetime.specs.declared.event.Event.TheVariants.{Sent, Received, Dropped, Began, Took, Ready, Unwilling, Decided, Closed, Failed, Refused}
-use Rattle.kt_cuts.specs.declared.deeds.Deed.{Deed}
-use Rattle.kt_cuts.specs.declared.deeds.Deed.TheVariants as deed
-use Rattle.kt_cuts.specs.Past.{Past, after}
-use Rattle.kt_cuts.specs.Legal.{is_deed}
-use Rattle.kt_cuts.specs.Traces.{place_of}
-use Rattle.kt_cuts.proofs.DeedFacts.{is_same}
-use Rattle.kt_cuts.proofs.Updates.{at_one_all}
+use Rattle.kt_spacetime.specs.declared.deeds.Deed.{Deed}
+use Rattle.kt_spacetime.specs.declared.deeds.Deed.TheVariants as deed
+use Rattle.kt_meaning.specs.Past.{Past, after}
+use Rattle.kt_meaning.specs.Legal.{is_deed}
+use Rattle.kt_rules.specs.Traces.{place_of}
+use Rattle.kt_rules.proofs.DeedFacts.{is_same}
+use Rattle.kt_meaning.proofs.Updates.{at_one_all}
 use Rattle.kt_walk.proofs.KeptFacts.{place_found}
 use Rattle.kt_picture.specs.Followed.{if_within}
 

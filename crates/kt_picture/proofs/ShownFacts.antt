@@ -7,11 +7,11 @@ use Rattle.std.proofs.lemmas.Option.{slice_get_read, slice_get_within}
 use Rattle.std.proofs.Math.Seq.{take-add}
 use Rattle.kt_spacetime.specs.declared.event.Event.{Event}
 use Rattle.kt_spacetime.specs.Events.{process_of}
-use Rattle.kt_cuts.specs.Past.{Past, past, start, after}
-use Rattle.kt_cuts.specs.Messages.{row_at}
-use Rattle.kt_cuts.proofs.LegalLogs.{rows_length}
-use Rattle.kt_cuts.proofs.Lists.{get_drop}
-use Rattle.kt_cuts.proofs.SortedFacts.{some_same}
+use Rattle.kt_meaning.specs.Past.{Past, past, start, after}
+use Rattle.kt_meaning.specs.Messages.{row_at}
+use Rattle.kt_meaning.proofs.LegalLogs.{rows_length}
+use Rattle.kt_meaning.proofs.Lists.{get_drop}
+use Rattle.kt_meaning.proofs.Items.{some_same}
 use Rattle.kt_picture.specs.declared.shown.Shown.{Shown}
 use Rattle.kt_picture.specs.Fates.{is_message_undone, is_receive_undone, is_sent_in_transit, joined_decision}
 use Rattle.kt_picture.specs.KnownAtRow.{KnownAtRow, seen_before, seen_after, shown_at, shown_rows}

@@ -8,9 +8,9 @@ use Rattle.std.specs.Prelude.{◌||◌, slice_set}
 use Rattle.kt_plan.proofs.NameFacts.{list_any-map}
 use Rattle.kt_spacetime.specs.declared.event.Event.{Event}
 use Rattle.kt_spacetime.specs.Events.{process_of}
-use Rattle.kt_cuts.specs.Past.{Past, past, after}
-use Rattle.kt_cuts.proofs.Items.{take_item}
-use Rattle.kt_cuts.proofs.LegalLogs.{past_push, rows_length}
+use Rattle.kt_meaning.specs.Past.{Past, past, after}
+use Rattle.kt_meaning.proofs.Items.{take_item}
+use Rattle.kt_meaning.proofs.LegalLogs.{past_push, rows_length}
 use Rattle.kt_walk.specs.WalkOf.{WalkOf}
 use Rattle.kt_walk.specs.WalkParts.{WalkParts}
 use Rattle.kt_picture.specs.declared.entry.Entry.{Entry}

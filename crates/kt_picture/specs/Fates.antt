@@ -3,10 +3,10 @@ use Rattle.std.specs.Prelude.{ℕ, Bool, true, false, ◌||◌, ◌==◌, Option
 use Rattle.std.specs.List.{list_any}
 use Rattle.kt_spacetime.specs.declared.event.Event.{Event}
 use Rattle.kt_spacetime.specs.declared.event.Event.TheVariants.{Sent, Received, Dropped, Took, Ready}
-use Rattle.kt_cuts.specs.declared.traces.Trace.{Trace}
-use Rattle.kt_cuts.specs.Past.{past}
-use Rattle.kt_cuts.specs.Legal.{is_undelivered}
-use Rattle.kt_cuts.specs.Traces.{trace_of}
+use Rattle.kt_rules.specs.declared.traces.Trace.{Trace}
+use Rattle.kt_meaning.specs.Past.{past}
+use Rattle.kt_meaning.specs.Legal.{is_undelivered}
+use Rattle.kt_rules.specs.Traces.{trace_of}
 
 -- whether the send of a message is undone
 abbrev pub is_send_undone : Option Trace → Bool

@@ -2,10 +2,10 @@
 use Rattle.std.specs.Prelude.{◌≡◌, ℕ, ◌+◌, nat_le, false, option_map, slice_index, if◌then◌else◌, Option, Some, None, List, [], ◌∷◌, length, map, slice_get}
 use Rattle.kt_spacetime.specs.declared.event.Event.{Event}
 use Rattle.kt_spacetime.specs.declared.event.Event.TheVariants.{Sent, Received, Dropped}
-use Rattle.kt_cuts.specs.declared.traces.Trace.{Trace}
+use Rattle.kt_rules.specs.declared.traces.Trace.{Trace}
 use Rattle.kt_spacetime.specs.Events.{process_of}
-use Rattle.kt_cuts.specs.Past.{Past}
-use Rattle.kt_cuts.specs.Traces.{trace_of}
+use Rattle.kt_meaning.specs.Past.{Past}
+use Rattle.kt_rules.specs.Traces.{trace_of}
 use Rattle.kt_picture.specs.declared.entry.Entry.{Entry}
 use Rattle.kt_picture.specs.declared.entry.Message.{Message}
 use Rattle.kt_picture.specs.declared.shown.Shown.{Shown}

@@ -1,7 +1,7 @@
 -- When what is kept at a row of the window stands for what is known there.
 use Rattle.std.specs.Prelude.{◌≡◌, List}
 use Rattle.kt_spacetime.specs.declared.event.Event.{Event}
-use Rattle.kt_cuts.specs.Past.{past}
+use Rattle.kt_meaning.specs.Past.{past}
 use Rattle.kt_walk.specs.WalkOf.{WalkOf}
 use Rattle.kt_walk.specs.WalkParts.{WalkParts}
 use Rattle.kt_picture.specs.declared.known.Known.{Known}

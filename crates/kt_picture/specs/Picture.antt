@@ -1,7 +1,7 @@
 -- The picture of a log.
 use Rattle.std.specs.Prelude.{ℕ, ◌+◌, Option, List, ◌++◌, length, drop}
 use Rattle.kt_spacetime.specs.declared.event.Event.{Event}
-use Rattle.kt_chain.specs.declared.certificate.Certificate.{Certificate}
+use Rattle.kt_spacetime.specs.declared.certificate.Certificate.{Certificate}
 use Rattle.kt_picture.specs.declared.breach.Breach.{Breach}
 use Rattle.kt_picture.specs.Breach.{breach_columns, breach_rows}
 use Rattle.kt_picture.specs.Evidence.{link_of, reason_of}

@@ -2,8 +2,8 @@
 use Rattle.std.specs.Prelude.{◌≡◌, ◌≢◌, ◌≤◌, ◌<◌, ℕ, zero, suc, true, Option, Some, None, List, [], ◌∷◌, take}
 use Rattle.kt_spacetime.specs.declared.event.Event.{Event}
 use Rattle.kt_spacetime.specs.declared.event.Event.TheVariants.{Took, Decided}
-use Rattle.kt_cuts.specs.Past.{past}
-use Rattle.kt_cuts.specs.Messages.{row_at}
+use Rattle.kt_meaning.specs.Past.{past}
+use Rattle.kt_meaning.specs.Messages.{row_at}
 use Rattle.kt_picture.specs.declared.shown.CutMark.{CutMark}
 use Rattle.kt_picture.specs.Marks.{column_of}
 

@@ -4,9 +4,9 @@ use Rattle.std.specs.List.{concat}
 use Rattle.std.specs.Fmt.{decimal, signed_decimal}
 use Rattle.kt_base.specs.declared.words.Kind.TheVariants.{Checkpoint, Rollback}
 use Rattle.kt_log_text.specs.Spelling.{cause_word}
-use Rattle.kt_cuts.specs.declared.rules.Rule.{Rule}
-use Rattle.kt_cuts.specs.declared.rules.Rule.TheVariants as rule
-use Rattle.kt_cuts.specs.Rules.{number_of}
+use Rattle.kt_spacetime.specs.declared.rules.Rule.{Rule}
+use Rattle.kt_spacetime.specs.declared.rules.Rule.TheVariants as rule
+use Rattle.kt_spacetime.specs.Rules.{number_of}
 use Rattle.kt_picture.specs.declared.looks.Look.TheVariants as look
 use Rattle.kt_picture.specs.declared.looks.Place.{Place}
 use Rattle.kt_picture.specs.declared.looks.Spot.{Spot}

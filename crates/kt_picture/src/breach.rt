@@ -6,8 +6,7 @@ ghost use Rattle.kt_picture.specs.Breach.{breach_shown, caption_of};
 use crate::shown::Shown;
 use crate::words::RuleName;
 use kt_base::Memory;
-use kt_cuts::Rule;
-use kt_spacetime::Event;
+use kt_spacetime::{Event, Rule};
 use std::alloc::Global;
 
 /// The row that comes after those of a legal log, and the least rule that it breaks.

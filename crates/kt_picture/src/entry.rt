@@ -2,8 +2,8 @@
 
 ghost use Rattle.std.specs.Prelude.{◌≡◌, ◌≤◌, ◌<◌, ◌+◌, ◌^◌, ◌++◌, ◌∷◌, [], None, Some, ℕ, Option, List, if◌then◌else◌, length, map};
 ghost use Rattle.kt_spacetime.specs.declared.event.Event.{Event};
-ghost use Rattle.kt_cuts.specs.Past.{past};
-ghost use Rattle.kt_cuts.specs.Legal.{IsLegal, broken_rule};
+ghost use Rattle.kt_meaning.specs.Past.{past};
+ghost use Rattle.kt_meaning.specs.Legal.{IsLegal, broken_rule};
 ghost use Rattle.kt_walk.specs.WalkOf.{WalkOf};
 ghost use Rattle.kt_picture.specs.Fates.{receives};
 ghost use Rattle.kt_picture.specs.Followed.{AreFollowed, IsFollowed, IsFollowedAs, if_within, message_in, message_kept, message_taken, trace_after, plain_of};
@@ -11,7 +11,7 @@ ghost use Rattle.kt_picture.specs.Followed.{AreFollowed, IsFollowed, IsFollowedA
 use crate::fates::receives;
 use crate::shown::Shown;
 use kt_base::{MsgNo, ProcNo};
-use kt_cuts::Trace;
+use kt_rules::Trace;
 use kt_spacetime::Event;
 use kt_walk::Walk;
 

@@ -4,13 +4,12 @@ ghost use Rattle.std.specs.Prelude.{◌≡◌, ◌++◌, ◌==◌, OnOk, Some, f
 ghost use Rattle.std.specs.List.{flat_map};
 ghost use Rattle.std.specs.Option.{option_copied};
 ghost use Rattle.kt_picture.specs.Evidence.{because, chain_for, chain_of, chain_of_member, chain_word, ends_between, ends_of_message};
-ghost use Rattle.kt_cuts.specs.Messages.{row_at};
+ghost use Rattle.kt_meaning.specs.Messages.{row_at};
 ghost use Rattle.kt_picture.specs.Pages.{reason_in};
 
 use crate::page::Page;
 use kt_base::{InstNo, Memory, MsgNo, ProcNo};
-use kt_chain::{Certificate, Chain};
-use kt_spacetime::Event;
+use kt_spacetime::{Certificate, Chain, Event};
 use std::fmt::Write;
 
 /// What is told of a log by its certificates, for a picture of it.

@@ -3,8 +3,8 @@
 ghost use Rattle.std.specs.Prelude.{◌≡◌, ℕ, Some, List, map, option_map};
 ghost use Rattle.std.specs.List.{list_any};
 ghost use Rattle.kt_spacetime.specs.declared.event.Event.{Event};
-ghost use Rattle.kt_cuts.specs.Legal.{is_undelivered};
-ghost use Rattle.kt_cuts.specs.Past.{past};
+ghost use Rattle.kt_meaning.specs.Legal.{is_undelivered};
+ghost use Rattle.kt_meaning.specs.Past.{past};
 ghost use Rattle.kt_walk.specs.WalkOf.{WalkOf};
 ghost use Rattle.kt_picture.specs.Fates.{has_no_receive, receives, is_message_undone, is_receive_undone, is_sent_in_transit, joined_decision};
 ghost use Rattle.kt_picture.specs.Followed.{IsFollowed, IsFollowedAs, event_of, message_in, told_at};

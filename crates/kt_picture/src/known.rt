@@ -3,10 +3,10 @@
 ghost use Rattle.std.specs.Prelude.{◌≡◌, ◌≤◌, ◌<◌, ◌^◌, ◌+◌, ◌++◌, ◌∷◌, [], ℕ, List, Some, Err, OnOk, OnErr, map, replicate, slice_index, slice_set};
 ghost use Rattle.std.specs.List.{range_with_len};
 ghost use Rattle.kt_spacetime.specs.declared.event.Event.{Event};
-ghost use Rattle.kt_cuts.specs.declared.rules.Rule.{Rule};
-ghost use Rattle.kt_cuts.specs.declared.legality.LegalFault.TheVariants as fault;
-ghost use Rattle.kt_cuts.specs.Past.{past};
-ghost use Rattle.kt_cuts.specs.Legal.{first_broken};
+ghost use Rattle.kt_spacetime.specs.declared.rules.Rule.{Rule};
+ghost use Rattle.kt_rules.specs.declared.legality.LegalFault.TheVariants as fault;
+ghost use Rattle.kt_meaning.specs.Past.{past};
+ghost use Rattle.kt_meaning.specs.Legal.{first_broken};
 ghost use Rattle.kt_walk.specs.WalkOf.{WalkOf};
 ghost use Rattle.kt_picture.specs.Followed.{plain_at};
 ghost use Rattle.kt_picture.specs.KnownAtRow.{KnownAtRow, seen_after, taken_after, places_after, place_after};
@@ -15,7 +15,7 @@ ghost use Rattle.kt_picture.specs.KnownOf.{KnownOf};
 
 use crate::shown::{End, Shown, number_of};
 use kt_base::{InstNo, ProcNo};
-use kt_cuts::LegalFault;
+use kt_rules::LegalFault;
 use kt_spacetime::Event;
 use kt_walk::Walk;
 

@@ -5,7 +5,7 @@ ghost use Rattle.kt_picture.specs.Evidence.{has_message, has_chained, link_of};
 ghost use Rattle.kt_picture.specs.Links.{NotesMore, link_at};
 
 use kt_base::{InstNo, Memory, MsgNo};
-use kt_chain::Certificate;
+use kt_spacetime::Certificate;
 use std::alloc::Global;
 use std::marker::Model;
 

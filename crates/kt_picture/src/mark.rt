@@ -7,7 +7,7 @@ use crate::legend::Line;
 use crate::looks::{Look, Place, x_of, y_of};
 use crate::words::{RuleName, Word};
 use kt_base::Memory;
-use kt_cuts::Rule;
+use kt_spacetime::Rule;
 use std::fmt;
 use std::fmt::Write;
 

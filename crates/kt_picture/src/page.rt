@@ -8,9 +8,8 @@ use crate::links::Links;
 use crate::shown::{CutMark, End, Shown};
 use crate::words::Name;
 use kt_base::{MsgNo, ProcNo};
-use kt_chain::Certificate;
 use kt_plan::Names;
-use kt_spacetime::Event;
+use kt_spacetime::{Certificate, Event};
 use std::alloc::Global;
 
 /// What marks are drawn by.

@@ -8,10 +8,9 @@ ghost use Rattle.kt_picture.specs.Texts.{body_fit, rule_name};
 
 use crate::looks::Spot;
 use kt_base::{Cause, InstNo, Kind, Memory, ProcNo};
-use kt_cuts::Rule;
 use kt_log_text::push_fields;
 use kt_plan::Names;
-use kt_spacetime::Event;
+use kt_spacetime::{Event, Rule};
 use std::alloc::Global;
 use std::fmt;
 

@@ -10,21 +10,21 @@ use Rattle.kt_base.specs.declared.words.Standing.{Standing}
 use Rattle.kt_tables.specs.Calls.{Call, on_tentative}
 use Rattle.kt_tables.specs.Standing.{TablesStandFor}
 use Rattle.kt_tables.specs.States.{State}
-use Rattle.kt_parts.specs.Joins.{Joins}
-use Rattle.kt_parts.specs.Rules.{way_on, way_alone}
-use Rattle.kt_parts.specs.Parts.{Part}
-use Rattle.kt_parts.specs.declared.actions.Action.{Action}
-use Rattle.kt_parts.specs.declared.actions.Action.TheVariants.{Nothing, Refuse, Join, Reply, Settle}
-use Rattle.kt_parts.specs.declared.actions.Then.{Then}
-use Rattle.kt_ckpt.specs.Rules as ckpt
-use Rattle.kt_ckpt.specs.Actions as ckpt_actions
-use Rattle.kt_roll.specs.Rules as roll
-use Rattle.kt_roll.specs.Actions as roll_actions
-use Rattle.kt_roll.specs.Notes.{note_of}
-use Rattle.kt_roll.specs.Sides.{RollSide}
-use Rattle.kt_seen.specs.Seen.{SeenPart, no_part, SeenProcess}
-use Rattle.kt_seen.specs.SeenJoining.{no_note, new_part}
-use Rattle.kt_seen.specs.CallTests.{is_asked_in_checkpoint, is_asked_in_rollback}
+use Rattle.kt_process.specs.Joins.{Joins}
+use Rattle.kt_process.specs.PartRules.{way_on, way_alone}
+use Rattle.kt_process.specs.Parts.{Part}
+use Rattle.kt_process.specs.declared.actions.Action.{Action}
+use Rattle.kt_process.specs.declared.actions.Action.TheVariants.{Nothing, Refuse, Join, Reply, Settle}
+use Rattle.kt_process.specs.declared.actions.Then.{Then}
+use Rattle.kt_process.specs.CheckpointRules as ckpt
+use Rattle.kt_process.specs.CheckpointActions as ckpt_actions
+use Rattle.kt_process.specs.RollbackRules as roll
+use Rattle.kt_process.specs.RollbackActions as roll_actions
+use Rattle.kt_process.specs.Notes.{note_of}
+use Rattle.kt_process.specs.RollingSides.{RollSide}
+use Rattle.kt_machine.specs.Seen.{SeenPart, no_part, SeenProcess}
+use Rattle.kt_machine.specs.SeenJoining.{no_note, new_part}
+use Rattle.kt_machine.specs.CallTests.{is_asked_in_checkpoint, is_asked_in_rollback}
 use Rattle.kt_process.specs.ProcessStates.{ProcessState, part_of_side, inst_of, IsNumbered}
 use Rattle.kt_process.specs.declared.side.Side.{Side}
 use Rattle.kt_process.specs.declared.side.Side.TheVariants as side
@@ -70,7 +70,7 @@ pub joined_save_as : (x : ProcessState) (y : SeenProcess) (t : State) (part : Pa
     IsSeenAs x y → n ≤ 64 → Joins n k parent part (Join asks goes) → ((calls : List Call) → TablesStandFor x.tables calls → ckpt_actions.AsksCheckpointCohort calls (Join asks goes)) →
     ((calls : List Call) → TablesStandFor x.tables calls → TablesStandFor t (calls ++ on_tentative ∷ [])) →
     IsProcessJoined kind.Checkpoint n k parent (mark_of marks) noted y (record { tables = t; side = Some (side.Checkpoint (record { part = part; marks = marks })); up = x.up; used = x.used }) asks goes
-unfolding ckpt.is_asked ckpt.asked_label is_asked_in_checkpoint Rattle.kt_seen.specs.CallTests.checkpoint_label
+unfolding ckpt.is_asked ckpt.asked_label is_asked_in_checkpoint Rattle.kt_machine.specs.CallTests.checkpoint_label
 joined_save_as x y t part marks n k parent noted asks goes h few joins cohort stands =
     let made : part_as false part no_note (mark_of marks) ≡ new_part n false parent (is_asked_in_checkpoint y.calls) no_note (mark_of marks) =
     made_part n k false parent no_note (mark_of marks) part asks _ _ few joins.0 (cohort y.calls h.stands) in
@@ -106,7 +106,7 @@ refuses_save x y s able marks n k (Settle commit tell) a h num i u start = absur
 pub joined_roll_as : (x : ProcessState) (y : SeenProcess) (r : RollSide) (n k : ℕ) (parent : Option ℕ) (marks : ℕ → ℕ) (noted : ℕ → Option ℕ) (asks : List (ℕ × ℕ)) (goes : Then) →
     IsSeenAs x y → n ≤ 64 → Joins n k parent r.part (Join asks goes) → ((calls : List Call) → TablesStandFor x.tables calls → roll_actions.AsksRollbackCohort calls (Join asks goes)) →
     note_of r.notes ≡ noted → IsProcessJoined kind.Rollback n k parent marks noted y (record x { side = Some (side.Rollback r) }) asks goes
-unfolding roll.is_asked roll.asked_label is_asked_in_rollback Rattle.kt_seen.specs.CallTests.rollback_label
+unfolding roll.is_asked roll.asked_label is_asked_in_rollback Rattle.kt_machine.specs.CallTests.rollback_label
 joined_roll_as x y r n k parent marks noted asks goes h few joins cohort notes =
     let made : part_as true r.part (note_of r.notes) no_mark ≡ new_part n true parent (is_asked_in_rollback y.calls) noted no_mark =
     ap (λ (f : ℕ → Option ℕ). part_as true r.part f no_mark) notes ∙ made_part n k true parent noted no_mark r.part asks _ _ few joins.0 (cohort y.calls h.stands) in

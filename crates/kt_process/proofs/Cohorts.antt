@@ -5,11 +5,11 @@ use Rattle.std.proofs.Math.Path.{fun_ext}
 use Rattle.std.proofs.lemmas.Bool.Decides.{nat_tests}
 use Rattle.kt_base.specs.Sets.{has, count_below, count_of}
 use Rattle.kt_tables.specs.Peers.{IsCohort, count_peers}
-use Rattle.kt_parts.specs.Asks.{is_asked_in}
-use Rattle.kt_parts.specs.Joins.{IsJoin}
-use Rattle.kt_parts.specs.Parts.{Part}
-use Rattle.kt_seen.specs.Seen.{SeenPart}
-use Rattle.kt_seen.specs.SeenJoining.{new_part}
+use Rattle.kt_process.specs.Asks.{is_asked_in}
+use Rattle.kt_process.specs.Joins.{IsJoin}
+use Rattle.kt_process.specs.Parts.{Part}
+use Rattle.kt_machine.specs.Seen.{SeenPart}
+use Rattle.kt_machine.specs.SeenJoining.{new_part}
 use Rattle.kt_process.specs.Shown.{part_as}
 
 abbrev pub Pairs : Type 0

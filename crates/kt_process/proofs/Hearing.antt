@@ -8,7 +8,7 @@ use Rattle.kt_base.specs.declared.words.Cause.{Cause}
 use Rattle.kt_base.specs.declared.words.Cause.TheVariants.{Busy, Down, NoSave}
 use Rattle.kt_base.specs.declared.words.Kind.TheVariants as kind
 use Rattle.kt_base.specs.declared.words.Standing.{Standing}
-use Rattle.kt_cuts.specs.Past.{at_one}
+use Rattle.kt_meaning.specs.Past.{at_one}
 use Rattle.kt_protocol.specs.Replies.{unable_cause}
 use Rattle.kt_tables.specs.Calls.{Call, Speaks, parts, sents, receiveds, on_tentative}
 use Rattle.kt_tables.specs.Labels.{least, greatest}
@@ -17,20 +17,20 @@ use Rattle.kt_tables.specs.States.{State}
 use Rattle.kt_tables.proofs.CallParts.{sent_rises}
 use Rattle.kt_tables.proofs.LabelLists.{least_decides, greatest_decides}
 use Rattle.kt_tables.proofs.Tests.{up_to_test, above_test}
-use Rattle.kt_parts.specs.Answers.{Answer, replies, joins}
-use Rattle.kt_parts.specs.Joins.{Joins}
-use Rattle.kt_parts.specs.Parts.{Part}
-use Rattle.kt_parts.specs.declared.actions.Action.{Action}
-use Rattle.kt_parts.specs.declared.actions.Action.TheVariants.{Nothing, Refuse, Join, Reply, Settle}
-use Rattle.kt_ckpt.specs.Rules as ckpt
-use Rattle.kt_ckpt.specs.Actions as ckpt_actions
-use Rattle.kt_roll.specs.Rules as roll
-use Rattle.kt_roll.specs.Actions as roll_actions
-use Rattle.kt_roll.specs.Notes.{note_of, with_note}
-use Rattle.kt_roll.specs.Sides.{RollSide, IsSideAfter}
-use Rattle.kt_seen.specs.Seen.{SeenPart, SeenProcess}
-use Rattle.kt_seen.specs.SeenJoining.{no_note, part_after_ask}
-use Rattle.kt_seen.specs.CallTests.{must_take, must_roll}
+use Rattle.kt_process.specs.Answers.{Answer, replies, joins}
+use Rattle.kt_process.specs.Joins.{Joins}
+use Rattle.kt_process.specs.Parts.{Part}
+use Rattle.kt_process.specs.declared.actions.Action.{Action}
+use Rattle.kt_process.specs.declared.actions.Action.TheVariants.{Nothing, Refuse, Join, Reply, Settle}
+use Rattle.kt_process.specs.CheckpointRules as ckpt
+use Rattle.kt_process.specs.CheckpointActions as ckpt_actions
+use Rattle.kt_process.specs.RollbackRules as roll
+use Rattle.kt_process.specs.RollbackActions as roll_actions
+use Rattle.kt_process.specs.Notes.{note_of, with_note}
+use Rattle.kt_process.specs.RollingSides.{RollSide, IsSideAfter}
+use Rattle.kt_machine.specs.Seen.{SeenPart, SeenProcess}
+use Rattle.kt_machine.specs.SeenJoining.{no_note, part_after_ask}
+use Rattle.kt_machine.specs.CallTests.{must_take, must_roll}
 use Rattle.kt_process.specs.ProcessStates.{ProcessState, part_of_side, inst_of, is_ready, IsNumbered}
 use Rattle.kt_process.specs.declared.side.Side.{Side}
 use Rattle.kt_process.specs.declared.side.Side.TheVariants as side

@@ -2,3 +2,16 @@ pub mod ProcessStates
 pub mod Sides
 pub mod Turns
 pub mod Shown
+pub mod Answers
+pub mod Asks
+pub mod Counts
+pub mod Joins
+pub mod Replies
+pub mod PartRules
+pub mod Parts
+pub mod CheckpointActions
+pub mod CheckpointRules
+pub mod RollbackActions
+pub mod Notes
+pub mod RollbackRules
+pub mod RollingSides

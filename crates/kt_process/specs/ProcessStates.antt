@@ -1,7 +1,7 @@
 -- One process as its manager has it.
 use Rattle.std.specs.Prelude.{◌≡◌, ◌<◌, ◌≤◌, ℕ, Bool, true, false, Option, Some, None, length}
 use Rattle.kt_base.specs.Sets.{has}
-use Rattle.kt_parts.specs.Parts.{Part}
+use Rattle.kt_process.specs.Parts.{Part}
 use Rattle.kt_tables.specs.States.{State}
 use Rattle.kt_tables.specs.Peers.{label_of}
 use Rattle.kt_process.specs.declared.side.Side.{Side}

@@ -5,24 +5,24 @@ use Rattle.kt_base.specs.declared.words.Kind.{Kind}
 use Rattle.kt_base.specs.declared.words.Kind.TheVariants.{Checkpoint, Rollback}
 use Rattle.kt_base.specs.declared.words.Cause.{Cause}
 use Rattle.kt_base.specs.declared.words.Cause.TheVariants.{Busy}
-use Rattle.kt_cuts.specs.Past.{at_one}
+use Rattle.kt_meaning.specs.Past.{at_one}
 use Rattle.kt_protocol.specs.Replies.{unable_cause}
 use Rattle.kt_tables.specs.Calls.{Call, on_tentative}
 use Rattle.kt_tables.specs.Peers.{IsCohort}
 use Rattle.kt_tables.specs.Standing.{TablesStandFor}
-use Rattle.kt_parts.specs.Answers.{Answer, replies, joins}
-use Rattle.kt_parts.specs.Rules.{way_alone}
-use Rattle.kt_parts.specs.Parts.{Part}
-use Rattle.kt_parts.specs.declared.actions.Action.{Action}
-use Rattle.kt_parts.specs.declared.actions.Action.TheVariants.{Nothing, Refuse, Join, Reply, Settle}
-use Rattle.kt_parts.specs.declared.actions.Then.{Then}
-use Rattle.kt_parts.specs.declared.actions.Then.TheVariants.{Wait}
-use Rattle.kt_roll.specs.Notes.{note_of}
-use Rattle.kt_seen.specs.Seen.{SeenPart, no_part, SeenProcess}
-use Rattle.kt_seen.specs.SeenJoining.{new_part, no_note, part_after_ask}
-use Rattle.kt_seen.specs.CallTests.{must_take, must_roll, is_asked_in_checkpoint, checkpoint_label, is_asked_in_rollback, rollback_label}
-use Rattle.kt_seen.specs.SeenReplies.{part_after_reply}
-use Rattle.kt_seen.specs.InOnePiece.{process_after_checkpoint, process_after_rollback}
+use Rattle.kt_process.specs.Answers.{Answer, replies, joins}
+use Rattle.kt_process.specs.PartRules.{way_alone}
+use Rattle.kt_process.specs.Parts.{Part}
+use Rattle.kt_process.specs.declared.actions.Action.{Action}
+use Rattle.kt_process.specs.declared.actions.Action.TheVariants.{Nothing, Refuse, Join, Reply, Settle}
+use Rattle.kt_process.specs.declared.actions.Then.{Then}
+use Rattle.kt_process.specs.declared.actions.Then.TheVariants.{Wait}
+use Rattle.kt_process.specs.Notes.{note_of}
+use Rattle.kt_machine.specs.Seen.{SeenPart, no_part, SeenProcess}
+use Rattle.kt_machine.specs.SeenJoining.{new_part, no_note, part_after_ask}
+use Rattle.kt_machine.specs.CallTests.{must_take, must_roll, is_asked_in_checkpoint, checkpoint_label, is_asked_in_rollback, rollback_label}
+use Rattle.kt_machine.specs.SeenReplies.{part_after_reply}
+use Rattle.kt_machine.specs.InOnePiece.{process_after_checkpoint, process_after_rollback}
 use Rattle.kt_process.specs.ProcessStates.{ProcessState}
 use Rattle.kt_process.specs.declared.side.Side.{Side}
 use Rattle.kt_process.specs.declared.side.Side.TheVariants as side

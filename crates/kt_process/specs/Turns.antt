@@ -3,15 +3,15 @@ use Rattle.std.specs.Prelude.{◌≡◌, ◌&&◌, ℕ, Bool, true, Option, Some
 use Rattle.kt_base.specs.Sets.{has}
 use Rattle.kt_base.specs.declared.words.Kind.{Kind}
 use Rattle.kt_base.specs.declared.words.Kind.TheVariants as kind
-use Rattle.kt_parts.specs.Joins.{Joins}
-use Rattle.kt_parts.specs.Rules.{reply_action}
-use Rattle.kt_parts.specs.Parts.{Part}
-use Rattle.kt_parts.specs.declared.actions.Action.{Action}
-use Rattle.kt_parts.specs.declared.actions.Action.TheVariants.{Nothing, Refuse, Join, Reply, Settle}
+use Rattle.kt_process.specs.Joins.{Joins}
+use Rattle.kt_process.specs.PartRules.{reply_action}
+use Rattle.kt_process.specs.Parts.{Part}
+use Rattle.kt_process.specs.declared.actions.Action.{Action}
+use Rattle.kt_process.specs.declared.actions.Action.TheVariants.{Nothing, Refuse, Join, Reply, Settle}
 use Rattle.kt_tables.specs.Peers.{has_one}
 use Rattle.kt_tables.specs.Standing.{TablesStandFor, must_take, must_roll}
 use Rattle.kt_tables.specs.States.{State}
-use Rattle.kt_roll.specs.Notes.{note_of}
+use Rattle.kt_process.specs.Notes.{note_of}
 use Rattle.kt_process.specs.ProcessStates.{ProcessState, part_of_side, is_saving, is_ready, inst_of}
 use Rattle.kt_process.specs.declared.side.Side.{Side}
 use Rattle.kt_process.specs.declared.side.Side.TheVariants.{Checkpoint, Rollback}

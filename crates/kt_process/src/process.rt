@@ -6,17 +6,18 @@ ghost use Rattle.kt_base.specs.Sets.{has};
 ghost use Rattle.kt_base.specs.declared.words.Kind.TheVariants as kind;
 ghost use Rattle.kt_tables.specs.Calls.{Call, sent, received, on_tentative, Speaks};
 ghost use Rattle.kt_tables.specs.Standing.{TablesStandFor, CanReceive};
-ghost use Rattle.kt_parts.specs.Replies.{IsReplyTo};
-ghost use Rattle.kt_parts.specs.Rules.{after_reply, settle_action};
-ghost use Rattle.kt_roll.specs.Notes.{note_of};
+ghost use Rattle.kt_process.specs.Replies.{IsReplyTo};
+ghost use Rattle.kt_process.specs.PartRules.{after_reply, settle_action};
+ghost use Rattle.kt_process.specs.Notes.{note_of};
 ghost use Rattle.kt_process.specs.ProcessStates.{ProcessState, part_of_side, is_saving, is_ready, inst_of, asked_of, IsNear, IsNumbered, ProcessFits};
 ghost use Rattle.kt_process.specs.Turns.{reply_of, HasPartners, IsTold, joins_by, peers_of, marks_of, noted_by, IsFresh, IsBegin, IsHeard};
-ghost use Rattle.kt_seen.specs.Seen.{SeenProcess};
+ghost use Rattle.kt_machine.specs.Seen.{SeenProcess};
 ghost use Rattle.kt_process.specs.Shown.{IsSeenAs, BeginsAs, HearsAs, counted_as, closed_as, mark_of, no_mark, inst_shown};
 
+use crate::actions::Action;
+use crate::part::Part;
 use crate::side::{Saving, Side};
 use kt_base::{InstNo, Kind, Label, Labels, Memory, ProcNo, ProcSet, Standing};
-use kt_parts::{Action, Part};
 use kt_tables::Tables;
 use std::alloc::Global;
 use std::marker::Model;
@@ -246,7 +247,7 @@ impl Process {
         ensures up { self.new.up ≡ self.old.up }
     {
         let standing = self.standing(able);
-        let (part, action) = kt_ckpt::start(&mut self.tables, inst, standing)?;
+        let (part, action) = crate::checkpoint::start(&mut self.tables, inst, standing)?;
         if let Some(part) = part {
             self.side = Some(Side::Checkpoint(Saving::new(part, marks)));
         }
@@ -263,7 +264,7 @@ impl Process {
         ensures up { self.new.up ≡ self.old.up }
     {
         let standing = self.standing(true);
-        let (side, action) = kt_roll::start(&self.tables, inst, standing)?;
+        let (side, action) = crate::rollback::start(&self.tables, inst, standing)?;
         if let Some(side) = side {
             self.side = Some(Side::Rollback(side));
         }
@@ -284,7 +285,7 @@ impl Process {
         ensures shows { IfSome result (λ action. (y : SeenProcess) (marks : ℕ → ℕ) → IsSeenAs self.now y → HearsAs kind.Checkpoint able self.now.tables.processes from inst label marks y self.now action) }
         ensures none { IfNone result (joins_by self.now kind.Checkpoint able from label ≡ true) }
     {
-        kt_ckpt::answer(&self.tables, self.standing(able), from, inst, label)
+        crate::checkpoint::answer(&self.tables, self.standing(able), from, inst, label)
     }
 
     /// It is asked to take part in a checkpoint: it replies, or takes its tentative one. The marks count only where it
@@ -307,7 +308,13 @@ impl Process {
         ensures up { self.new.up ≡ self.old.up }
     {
         let standing = self.standing(able);
-        let (part, action) = kt_ckpt::on_ask(&mut self.tables, standing, from, inst, label)?;
+        let (part, action) = crate::checkpoint::on_ask(
+            &mut self.tables,
+            standing,
+            from,
+            inst,
+            label,
+        )?;
         if let Some(part) = part {
             self.side = Some(Side::Checkpoint(Saving::new(part, marks)));
         }
@@ -332,7 +339,7 @@ impl Process {
         let standing = self.standing(true);
         match &mut self.side {
             Some(Side::Rollback(side)) => {
-                let (_, action) = kt_roll::on_ask(
+                let (_, action) = crate::rollback::on_ask(
                     &self.tables,
                     Some(side),
                     standing,
@@ -343,11 +350,18 @@ impl Process {
                 Ok(action)
             }
             Some(Side::Checkpoint(_)) => {
-                let (_, action) = kt_roll::on_ask(&self.tables, None, standing, from, inst, label)?;
+                let (_, action) = crate::rollback::on_ask(
+                    &self.tables,
+                    None,
+                    standing,
+                    from,
+                    inst,
+                    label,
+                )?;
                 Ok(action)
             }
             None => {
-                let (side, action) = kt_roll::on_ask(
+                let (side, action) = crate::rollback::on_ask(
                     &self.tables,
                     None,
                     standing,
@@ -375,7 +389,7 @@ impl Process {
     {
         match &mut self.side {
             Some(Side::Checkpoint(side)) => side.take_reply(willing),
-            Some(Side::Rollback(side)) => kt_roll::on_reply(side, willing),
+            Some(Side::Rollback(side)) => crate::rollback::on_reply(side, willing),
             None => Action::Nothing,
         }
     }
@@ -393,11 +407,11 @@ impl Process {
     {
         match self.side.take() {
             Some(Side::Checkpoint(side)) => {
-                told(kt_ckpt::on_decide(&mut self.tables, side.into_part(), commit))
+                told(crate::checkpoint::on_decide(&mut self.tables, side.into_part(), commit))
             }
             Some(Side::Rollback(side)) => {
                 self.up = self.up || commit;
-                told(kt_roll::on_decide(&mut self.tables, side, commit))
+                told(crate::rollback::on_decide(&mut self.tables, side, commit))
             }
             None => ProcSet::empty(),
         }

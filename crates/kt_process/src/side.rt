@@ -1,9 +1,9 @@
 //! A process's part in the instance that it is in.
 
 ghost use Rattle.std.specs.Prelude.{◌≡◌};
-ghost use Rattle.kt_parts.specs.Rules.{after_reply, reply_action};
+ghost use Rattle.kt_process.specs.PartRules.{after_reply, reply_action};
 
-use kt_parts::Part;
+use crate::part::Part;
 use std::marker::Model;
 
 /// A process's part in an instance of checkpoint; and by sender, as its mark, how many of the parcels that are kept were
@@ -45,11 +45,11 @@ impl Saving {
     }
 
     /// The part, to be changed by a reply.
-    pub(crate) fn take_reply(&mut self, willing: bool) -> kt_parts::Action
+    pub(crate) fn take_reply(&mut self, willing: bool) -> crate::actions::Action
         ensures part { self.new ≡ record self.old { part = after_reply self.old.part willing } }
         ensures action { result ≡ reply_action self.old.part willing }
     {
-        kt_ckpt::on_reply(&mut self.part, willing)
+        crate::checkpoint::on_reply(&mut self.part, willing)
     }
 
     /// The part alone.
@@ -64,5 +64,5 @@ impl Saving {
 #[derive(Drop)]
 pub enum Side {
     Checkpoint(Saving),
-    Rollback(kt_roll::Side),
+    Rollback(crate::rolling::Rolling),
 }

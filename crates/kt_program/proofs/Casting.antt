@@ -6,9 +6,9 @@ use Rattle.std.proofs.lemmas.List.Elements.{All-cons, All-head, All-tail, All-ni
 use Rattle.kt_plan.specs.declared.commands.Command.{Command}
 use Rattle.kt_plan.specs.Limits.{IsKindOfObject, Planned}
 use Rattle.kt_object.specs.Value.{opening_value}
-use Rattle.kt_held.specs.Holdings.{content}
+use Rattle.kt_object.specs.Holdings.{content}
 use Rattle.kt_plan.specs.Failures.{failures_of}
-use Rattle.kt_held.specs.Casts.{HasSizes, HasKind}
+use Rattle.kt_object.specs.Casts.{HasSizes, HasKind}
 use Rattle.kt_run.specs.Objects.{first_of}
 use Rattle.kt_program.specs.CastRows.{IsMadeCast}
 use Rattle.kt_program.specs.Played.{AreNew}

@@ -4,14 +4,14 @@ use Rattle.std.specs.Prelude.{◌↔◌, IfSome}
 use Rattle.kt_spacetime.specs.declared.event.Event.{Event}
 use Rattle.kt_log_text.specs.Texts.{IsLogText}
 use Rattle.kt_log_text.proofs.TextFacts.{one_log}
-use Rattle.kt_chain.specs.declared.certificate.Certificate.{Certificate}
+use Rattle.kt_spacetime.specs.declared.certificate.Certificate.{Certificate}
 use Rattle.kt_chain.specs.Texts.{IsCertText}
 use Rattle.kt_chain.proofs.TextFacts.{one_text}
-use Rattle.kt_checker.specs.declared.verdict.Verdict.{Verdict}
-use Rattle.kt_checker.specs.declared.verdict.Verdict.TheVariants.{Yes, No}
-use Rattle.kt_checker.specs.Order.{IsCheckerAnswer}
-use Rattle.kt_checker.specs.Passing.{IsPassed}
-use Rattle.kt_checker.proofs.Answering.{passed_of, yes_of}
+use Rattle.kt_spacetime.specs.declared.verdict.Verdict.{Verdict}
+use Rattle.kt_spacetime.specs.declared.verdict.Verdict.TheVariants.{Yes, No}
+use Rattle.kt_meaning.specs.Answers.{IsCheckerAnswer}
+use Rattle.kt_meaning.specs.Passing.{IsPassed}
+use Rattle.kt_meaning.proofs.Answering.{passed_of, yes_of}
 use Rattle.kt_program.specs.Stored.{BytesTold, IsVerdictOf, IsExact, is_yes, records_told}
 
 -- the records of a text

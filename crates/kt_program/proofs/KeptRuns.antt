@@ -5,18 +5,18 @@ use Rattle.std.proofs.lemmas.List.{get_or_append_left, length-append, take-appen
 use Rattle.std.proofs.lemmas.Option.{slice_get-get_or, slice_get_within}
 use Rattle.kt_spacetime.specs.declared.event.Event.{Event}
 use Rattle.kt_spacetime.specs.declared.event.Event.TheVariants.{Sent}
-use Rattle.kt_held.specs.Holdings.{Content}
+use Rattle.kt_object.specs.Holdings.{Content}
 use Rattle.kt_plan.specs.Limits.{Planned, IsPlan}
 use Rattle.kt_plan.specs.Names.{AreNames}
 use Rattle.kt_plan.specs.declared.steps.Step.{Step}
-use Rattle.kt_plans.specs.Follows.{command_answered}
-use Rattle.kt_plans.specs.Headline.{IsCertified}
-use Rattle.kt_plans.specs.Offers.{SendsWhatIsOffered}
-use Rattle.kt_plans.specs.Progress.{Progress, progress_at_start}
-use Rattle.kt_plans.specs.Runs.{Move, AreDefaultMoves, RunReaches, after_moves}
-use Rattle.kt_plans.specs.StepActs.{rows_added}
-use Rattle.kt_plans.specs.Steps.{enabled, is_at_rest, progress_after}
-use Rattle.kt_plans.specs.Told.{rows_along}
+use Rattle.kt_meaning.specs.Follows.{command_answered}
+use Rattle.kt_meaning.specs.Promised.{IsCertified}
+use Rattle.kt_promises.specs.Offers.{SendsWhatIsOffered}
+use Rattle.kt_promises.specs.Progress.{Progress, progress_at_start}
+use Rattle.kt_promises.specs.Runs.{Move, AreDefaultMoves, RunReaches, after_moves}
+use Rattle.kt_promises.specs.StepActs.{rows_added}
+use Rattle.kt_promises.specs.Steps.{enabled, is_at_rest, progress_after}
+use Rattle.kt_promises.specs.Told.{rows_along}
 use Rattle.kt_run.specs.Objects.{rules_by}
 use Rattle.kt_run.specs.OneRun.{SavesAll}
 use Rattle.kt_run.specs.Orders.{IsOneOrderedRun, IsOrderedRun, IsRunBy, kept_steps}

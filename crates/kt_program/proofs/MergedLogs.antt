@@ -1,9 +1,9 @@
 -- Parts that files say, and where their log goes.
 use Rattle.std.proofs.Common.{◌≡◌, ◌∙◌, ◌⊎◌, ℕ, List, [], ◌∷◌, ◌++◌, length, inl, inr, subst, sym}
 use Rattle.std.specs.Io.KnownBytes.{Appends}
-use Rattle.kt_cuts.proofs.Items.{get_push}
-use Rattle.kt_part_text.specs.Reading.{PartRead, part_unread}
-use Rattle.kt_merging.specs.Merged.{IsMergedText}
+use Rattle.kt_meaning.proofs.Items.{get_push}
+use Rattle.kt_merge.specs.Reading.{PartRead, part_unread}
+use Rattle.kt_merge.specs.Merged.{IsMergedText}
 use Rattle.kt_program.specs.declared.line.Merging.{Merging}
 use Rattle.kt_program.specs.Merged.{AreReadFrom, LeavesLog, MergesTo}
 use Rattle.kt_program.specs.Outputs.{TextGoesTo}

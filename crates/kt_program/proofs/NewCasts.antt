@@ -7,7 +7,7 @@ use Rattle.std.proofs.lemmas.List.Elements.{All-head, All-tail}
 use Rattle.kt_object.specs.Bytes.{IsSavedState}
 use Rattle.kt_plan.specs.declared.commands.Command.{Command}
 use Rattle.kt_plan.specs.Limits.{IsKindOfObject}
-use Rattle.kt_held.specs.Refusals.{IsFirstObject, IsLeastRefused}
+use Rattle.kt_object.specs.Refusals.{IsFirstObject, IsLeastRefused}
 use Rattle.kt_run.specs.Rejections.{MayReject}
 use Rattle.kt_program.specs.CastRows.{IsMadeCast}
 use Rattle.kt_program.proofs.Casting.{made_of_cast}

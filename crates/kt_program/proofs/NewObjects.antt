@@ -2,14 +2,14 @@
 use Rattle.std.proofs.Common.{◌≡◌, ◌<◌, ℕ, false, refl, length, inl, inr, List}
 use Rattle.std.specs.Prelude.{Result, Ok, Err, OnOk, IfErr}
 use Rattle.kt_core.specs.declared.faults.StepFault.{StepFault}
-use Rattle.kt_held.specs.Casts.{HasSizes, HasKind}
+use Rattle.kt_object.specs.Casts.{HasSizes, HasKind}
 use Rattle.kt_run.specs.Faults as run
 use Rattle.kt_run.specs.declared.faults.RunFault.{RunFault}
 use Rattle.kt_run.specs.declared.faults.RunFault.TheVariants as run_fault
 use Rattle.kt_threads.specs.Faults as threads
 use Rattle.kt_threads.specs.declared.faults.LiveFault.{LiveFault}
 use Rattle.kt_threads.specs.declared.faults.LiveFault.TheVariants as live_fault
-use Rattle.kt_held.specs.Holdings.{Content}
+use Rattle.kt_object.specs.Holdings.{Content}
 use Rattle.kt_plan.specs.Limits.{Planned}
 use Rattle.kt_spacetime.specs.declared.event.Event.{Event}
 use Rattle.kt_program.specs.declared.fault.AppFault.{AppFault}

@@ -4,13 +4,13 @@ use Rattle.std.specs.Prelude.{◌&&◌, nat_lt, Option, if◌then◌else◌}
 use Rattle.std.proofs.lemmas.Bool.Decides.{nat_tests}
 use Rattle.std.proofs.lemmas.List.Elements.{All-cons}
 use Rattle.kt_spacetime.specs.declared.event.Event.{Event}
-use Rattle.kt_held.specs.Holdings.{Content}
+use Rattle.kt_object.specs.Holdings.{Content}
 use Rattle.kt_plan.specs.Limits.{Planned, IsPlan}
 use Rattle.kt_plan.specs.declared.steps.Step.{Step}
 use Rattle.kt_plan.specs.declared.steps.Step.TheVariants.{Do, Take}
-use Rattle.kt_plans.specs.Progress.{Progress, next_command, progress_at_start}
-use Rattle.kt_plans.specs.Runs.{Move, RunReaches, after_moves}
-use Rattle.kt_plans.specs.Steps.{can_take_from, enabled, may_do, progress_after}
+use Rattle.kt_promises.specs.Progress.{Progress, next_command, progress_at_start}
+use Rattle.kt_promises.specs.Runs.{Move, RunReaches, after_moves}
+use Rattle.kt_promises.specs.Steps.{can_take_from, enabled, may_do, progress_after}
 use Rattle.kt_run.specs.Orders.{IsRunBy}
 use Rattle.kt_scenario.specs.Written.{IsStepOf}
 use Rattle.kt_program.proofs.RunLaws.{RunLaws}

@@ -2,8 +2,8 @@
 use Rattle.std.proofs.Common.{◌≡◌, ◌≢◌, ◌<◌, ◌≤◌, ◌∙◌, Some, None, inl, inr, List, ap, length, refl, subst, sym}
 use Rattle.std.specs.Prelude.{Result, Ok, Err, IfOk, IfErr, IfSome, OnOk}
 use Rattle.std.specs.Io.KnownBytes.{Appends}
-use Rattle.kt_plans.specs.Follows.{FollowsPlan}
-use Rattle.kt_plans.specs.Headline.{IsPromised}
+use Rattle.kt_meaning.specs.Follows.{FollowsPlan}
+use Rattle.kt_meaning.specs.Promised.{IsPromised}
 use Rattle.kt_scenario.specs.Steps.{most_steps}
 use Rattle.kt_scenario.specs.Written.{steps_text}
 use Rattle.kt_text.specs.Writing.{WritesFront}

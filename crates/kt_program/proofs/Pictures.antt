@@ -5,7 +5,7 @@ use Rattle.std.specs.Io.KnownBytes.{Appends}
 use Rattle.kt_log_text.specs.declared.fault.LogFault.{LogFault}
 use Rattle.kt_log_text.specs.declared.fault.LogFault.TheVariants.{Read, TooLong, Version, Fields, Word, Number, Memory}
 use Rattle.kt_spacetime.specs.declared.event.Event.{Event}
-use Rattle.kt_chain.specs.declared.certificate.Certificate.{Certificate}
+use Rattle.kt_spacetime.specs.declared.certificate.Certificate.{Certificate}
 use Rattle.kt_checker.specs.Streamed.{SaysRows}
 use Rattle.kt_draw.specs.declared.fault.DrawFault.{DrawFault}
 use Rattle.kt_draw.specs.declared.fault.DrawFault.TheVariants as draw

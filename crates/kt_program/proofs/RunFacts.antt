@@ -4,13 +4,13 @@ use Rattle.std.specs.Prelude.{◌&&◌, not, slice_get, ◌-◌}
 use Rattle.std.specs.List.{range_with_len}
 use Rattle.kt_spacetime.specs.declared.event.Event.{Event}
 use Rattle.kt_spacetime.specs.declared.event.Event.TheVariants.{Sent}
-use Rattle.kt_cuts.specs.Past.{Past, past}
-use Rattle.kt_cuts.specs.Legal.{has_deed}
-use Rattle.kt_cuts.specs.declared.deeds.Deed.TheVariants as deed
-use Rattle.kt_certify.specs.Faults.{HasNoChain}
-use Rattle.kt_certify.specs.declared.fault.CertFault.TheVariants.{NoChain, Memory}
-use Rattle.kt_plans.specs.Follows.{IsQuietPast}
-use Rattle.kt_plans.specs.Headline.{IsCertified}
+use Rattle.kt_meaning.specs.Past.{Past, past}
+use Rattle.kt_meaning.specs.Legal.{has_deed}
+use Rattle.kt_spacetime.specs.declared.deeds.Deed.TheVariants as deed
+use Rattle.kt_meaning.specs.Fitness.{HasNoChain}
+use Rattle.kt_spacetime.specs.declared.unfit.CertFault.TheVariants.{NoChain, Memory}
+use Rattle.kt_meaning.specs.Follows.{IsQuietPast}
+use Rattle.kt_meaning.specs.Promised.{IsCertified}
 use Rattle.kt_report.specs.Exact.{is_lost, lost_in}
 
 -- a log that has certificates lacks no chain

@@ -1,16 +1,16 @@
 -- The laws of runs that lemmas rest on: whoever cites such a lemma calls these laws.
 use Rattle.std.specs.Prelude.{◌≡◌, ◌≢◌, ◌↔◌, ℕ, true, false, Some, None, List, map}
-use Rattle.kt_held.specs.Holdings.{Content}
+use Rattle.kt_object.specs.Holdings.{Content}
 use Rattle.kt_plan.specs.Limits.{Planned, IsPlan}
 use Rattle.kt_plan.specs.declared.steps.Give.{Give}
 use Rattle.kt_plan.specs.declared.steps.Step.{Step}
 use Rattle.kt_plan.specs.declared.steps.Step.TheVariants.{Take}
-use Rattle.kt_plans.specs.Defaults.{default_step}
-use Rattle.kt_plans.specs.Offers.{SendsWhatIsOffered}
-use Rattle.kt_plans.specs.Progress.{Progress, progress_at_start}
-use Rattle.kt_plans.specs.Runs.{Move, RunReaches, after_moves}
-use Rattle.kt_plans.specs.Steps.{enabled, is_at_rest, progress_after}
-use Rattle.kt_plans.specs.Told.{rows_along}
+use Rattle.kt_promises.specs.Defaults.{default_step}
+use Rattle.kt_promises.specs.Offers.{SendsWhatIsOffered}
+use Rattle.kt_promises.specs.Progress.{Progress, progress_at_start}
+use Rattle.kt_promises.specs.Runs.{Move, RunReaches, after_moves}
+use Rattle.kt_promises.specs.Steps.{enabled, is_at_rest, progress_after}
+use Rattle.kt_promises.specs.Told.{rows_along}
 use Rattle.kt_run.specs.Objects.{rules_by}
 use Rattle.kt_run.specs.OneRun.{SavesAll}
 

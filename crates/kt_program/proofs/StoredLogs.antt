@@ -3,18 +3,18 @@ use Rattle.std.proofs.Common.{◌≡◌, ◌≢◌, ℕ, List, Option, Some, Non
 use Rattle.std.specs.Io.KnownBytes.{Appends}
 use Rattle.std.specs.Prelude.{Result, Ok, Err, OnOk, IfErr}
 use Rattle.kt_spacetime.specs.declared.event.Event.{Event}
-use Rattle.kt_cuts.specs.Legal.{IsLegal}
+use Rattle.kt_meaning.specs.Legal.{IsLegal}
 use Rattle.kt_log_text.specs.Reading.{rows_unread}
 use Rattle.kt_log_text.specs.Texts as rows
 use Rattle.kt_log_text.proofs.TextFacts.{one_log}
 use Rattle.kt_log_text.specs.declared.fault.LogFault.{LogFault}
 use Rattle.kt_log_text.specs.declared.fault.LogFault.TheVariants.{Read, TooLong, Version, Fields, Word, Number, Memory}
-use Rattle.kt_chain.specs.declared.certificate.Certificate.{Certificate}
-use Rattle.kt_certify.specs.Certificates.{certificates}
-use Rattle.kt_certify.specs.Faults.{HasNoChain, IsUnfit}
-use Rattle.kt_certify.specs.Meant.{AreMeant}
+use Rattle.kt_spacetime.specs.declared.certificate.Certificate.{Certificate}
+use Rattle.kt_meaning.specs.Certificates.{certificates}
+use Rattle.kt_meaning.specs.Fitness.{HasNoChain, IsUnfit}
+use Rattle.kt_meaning.specs.Meant.{AreMeant}
 use Rattle.kt_certify.specs.Streamed.{AreCertified, AreRowsOf, IsFaultOfBytes}
-use Rattle.kt_certify.specs.declared.fault.Unfit.{Unfit as Unfits}
+use Rattle.kt_spacetime.specs.declared.unfit.Unfit.{Unfit as Unfits}
 use Rattle.kt_checker.specs.Streamed.{SaysRows}
 use Rattle.kt_certify.specs.declared.fault.StreamFault.{StreamFault}
 use Rattle.kt_certify.specs.declared.fault.StreamFault.TheVariants.{Log, Unfit}

@@ -5,12 +5,12 @@ use Rattle.clap.specs.Words.{Text}
 use Rattle.kt_spacetime.specs.declared.event.Event.{Event}
 use Rattle.kt_plan.specs.declared.steps.Step.{Step}
 use Rattle.kt_plan.specs.Limits.{Planned}
-use Rattle.kt_certify.specs.Certificates.{certificates}
+use Rattle.kt_meaning.specs.Certificates.{certificates}
 use Rattle.kt_report.specs.Exact.{report_of}
-use Rattle.kt_plans.specs.Follows.{FollowsPlan}
-use Rattle.kt_plans.specs.Headline.{IsPromised}
-use Rattle.kt_judge.specs.Answers.{passes}
-use Rattle.kt_judge.specs.declared.answer.Answer.{Answer}
+use Rattle.kt_meaning.specs.Follows.{FollowsPlan}
+use Rattle.kt_meaning.specs.Promised.{IsPromised}
+use Rattle.kt_explain.specs.Answers.{passes}
+use Rattle.kt_explain.specs.declared.answer.Answer.{Answer}
 use Rattle.kt_program.specs.declared.ending.Done.{Done}
 use Rattle.kt_program.specs.declared.ending.Done.TheVariants.{Judged, Played, Certified, Drawn, Merged, Shown}
 use Rattle.kt_program.specs.declared.fault.AppFault.TheVariants as app

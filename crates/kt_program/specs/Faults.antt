@@ -4,8 +4,8 @@ use Rattle.kt_log_text.specs.declared.fault.LogFault.{LogFault}
 use Rattle.kt_log_text.specs.declared.fault.LogFault.TheVariants as log
 use Rattle.kt_chain.specs.declared.fault.CertTextFault.{CertTextFault}
 use Rattle.kt_chain.specs.declared.fault.CertTextFault.TheVariants as cert
-use Rattle.kt_part_text.specs.declared.fault.PartFault.{PartFault}
-use Rattle.kt_part_text.specs.declared.fault.PartFault.TheVariants as part
+use Rattle.kt_merge.specs.declared.part_fault.PartFault.{PartFault}
+use Rattle.kt_merge.specs.declared.part_fault.PartFault.TheVariants as part
 use Rattle.kt_merge.specs.declared.fault.MergeFault.{MergeFault}
 use Rattle.kt_merge.specs.declared.fault.MergeFault.TheVariants as merge
 use Rattle.kt_core.specs.declared.faults.StepFault.{StepFault}

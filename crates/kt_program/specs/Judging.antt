@@ -2,15 +2,15 @@
 use Rattle.std.specs.Prelude.{◌≡◌, Bool, true, false, Option, Some, None, List, [], ℕ}
 use Rattle.std.specs.Io.KnownBytes.{Appends}
 use Rattle.kt_spacetime.specs.declared.event.Event.{Event}
-use Rattle.kt_chain.specs.declared.certificate.Certificate.{Certificate}
-use Rattle.kt_checker.specs.declared.verdict.Verdict.{Verdict}
-use Rattle.kt_checker.specs.Order.{IsCheckerAnswer}
+use Rattle.kt_spacetime.specs.declared.certificate.Certificate.{Certificate}
+use Rattle.kt_spacetime.specs.declared.verdict.Verdict.{Verdict}
+use Rattle.kt_meaning.specs.Answers.{IsCheckerAnswer}
 use Rattle.kt_checker.specs.Streamed.{SaysRows}
 use Rattle.kt_explain.specs.declared.explanation.Explanation.{Explanation}
 use Rattle.kt_explain.specs.Told.{IsExplanation}
-use Rattle.kt_judge.specs.Answers.{passes}
-use Rattle.kt_judge.specs.Judging.{IsAnswerBy}
-use Rattle.kt_judge.specs.declared.answer.Answer.{Answer}
+use Rattle.kt_explain.specs.Answers.{passes}
+use Rattle.kt_explain.specs.Judging.{IsAnswerBy}
+use Rattle.kt_explain.specs.declared.answer.Answer.{Answer}
 use Rattle.kt_program.specs.declared.line.Judging.{Judging}
 use Rattle.kt_program.specs.Names.{Name}
 use Rattle.kt_program.specs.Stored.{BytesTold, SayCertificates, answer_text}

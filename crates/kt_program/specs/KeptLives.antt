@@ -1,10 +1,10 @@
 -- Runs in threads of which the steps are kept.
 use Rattle.std.specs.Prelude.{List}
 use Rattle.kt_spacetime.specs.declared.event.Event.{Event}
-use Rattle.kt_held.specs.Holdings.{Content}
+use Rattle.kt_object.specs.Holdings.{Content}
 use Rattle.kt_plan.specs.declared.steps.Step.{Step}
 use Rattle.kt_plan.specs.Limits.{Planned}
-use Rattle.kt_plans.specs.Headline.{IsCertified}
+use Rattle.kt_meaning.specs.Promised.{IsCertified}
 use Rattle.kt_run.specs.Orders.{IsRunBy}
 use Rattle.kt_program.specs.Recorded.{AreReadBack, IsPlayedAgain}
 

@@ -2,11 +2,11 @@
 use Rattle.std.specs.Prelude.{◌≡◌, ◌≢◌, ◌⊎◌, ℕ, List, length, Some, Result, Ok, Err}
 use Rattle.std.specs.List.{slice_get}
 use Rattle.std.specs.Io.KnownBytes.{Appends}
-use Rattle.kt_part_text.specs.declared.fault.PartFault.TheVariants as part
-use Rattle.kt_part_text.specs.Reading.{PartRead, part_unread}
+use Rattle.kt_merge.specs.declared.part_fault.PartFault.TheVariants as part
+use Rattle.kt_merge.specs.Reading.{PartRead, part_unread}
 use Rattle.kt_merge.specs.declared.fault.MergeFault.{MergeFault}
 use Rattle.kt_merge.specs.declared.fault.MergeFault.TheVariants as merge
-use Rattle.kt_merging.specs.Merged.{IsMergedText}
+use Rattle.kt_merge.specs.Merged.{IsMergedText}
 use Rattle.kt_program.specs.declared.ending.Done.{Done}
 use Rattle.kt_program.specs.declared.fault.AppFault.{AppFault}
 use Rattle.kt_program.specs.declared.fault.AppFault.TheVariants as app

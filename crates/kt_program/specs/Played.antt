@@ -1,7 +1,7 @@
 -- What is written of a run.
 use Rattle.std.specs.Prelude.{◌≡◌, ◌≢◌, ◌<◌, ◌⊎◌, [], ◌∷◌, ℕ, Option, List, length, map, slice_index, slice_index_or}
 use Rattle.std.specs.Io.KnownBytes.{Appends}
-use Rattle.kt_held.specs.Holdings.{Content, content}
+use Rattle.kt_object.specs.Holdings.{Content, content}
 use Rattle.kt_object.specs.Value.{opening_value}
 use Rattle.kt_spacetime.specs.declared.event.Event.{Event}
 use Rattle.kt_text.specs.Writing.{text_of, WritesFront}
@@ -10,13 +10,13 @@ use Rattle.kt_text.specs.declared.fault.WriteFault.TheVariants as write
 use Rattle.kt_log_text.specs.Spelling.{spelling}
 use Rattle.kt_log_text.specs.Texts.{header}
 use Rattle.kt_chain.specs.Spelling.{records_of}
-use Rattle.kt_certify.specs.Certificates.{certificates}
-use Rattle.kt_certify.specs.declared.fault.CertFault.{CertFault}
-use Rattle.kt_certify.specs.declared.fault.CertFault.TheVariants as certify
+use Rattle.kt_meaning.specs.Certificates.{certificates}
+use Rattle.kt_spacetime.specs.declared.unfit.CertFault.{CertFault}
+use Rattle.kt_spacetime.specs.declared.unfit.CertFault.TheVariants as certify
 use Rattle.kt_report.specs.Exact.{report_of}
 use Rattle.kt_plan.specs.Limits.{Planned}
-use Rattle.kt_plans.specs.Follows.{FollowsPlan}
-use Rattle.kt_plans.specs.Headline.{IsPromised}
+use Rattle.kt_meaning.specs.Follows.{FollowsPlan}
+use Rattle.kt_meaning.specs.Promised.{IsPromised}
 use Rattle.kt_run.specs.Objects.{first_of}
 use Rattle.kt_run.specs.declared.faults.RunFault.{RunFault}
 use Rattle.kt_run.specs.declared.faults.RunFault.TheVariants as run

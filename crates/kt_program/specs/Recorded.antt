@@ -3,11 +3,11 @@ use Rattle.std.specs.Prelude.{◌≡◌, ◌≢◌, ◌<◌, ◌≤◌, ◌⊎�
 use Rattle.std.specs.Io.KnownBytes.{Appends}
 use Rattle.kt_text.specs.Writing.{WritesFront}
 use Rattle.kt_spacetime.specs.declared.event.Event.{Event}
-use Rattle.kt_held.specs.Holdings.{Content}
+use Rattle.kt_object.specs.Holdings.{Content}
 use Rattle.kt_plan.specs.declared.steps.Step.{Step}
 use Rattle.kt_plan.specs.Limits.{Planned}
-use Rattle.kt_plans.specs.Headline.{IsCertified}
-use Rattle.kt_plans.specs.Progress.{progress_at_start}
+use Rattle.kt_meaning.specs.Promised.{IsCertified}
+use Rattle.kt_promises.specs.Progress.{progress_at_start}
 use Rattle.kt_run.specs.OneRun.{SavesAll}
 use Rattle.kt_run.specs.Orders.{IsOrderedRun}
 use Rattle.kt_run.specs.Runs.{IsPlayed}

@@ -1,7 +1,7 @@
 -- Files that are read.
 use Rattle.kt_log_text.specs.declared.fault.LogFault.TheVariants as log
 use Rattle.kt_chain.specs.declared.fault.CertTextFault.TheVariants as cert
-use Rattle.kt_part_text.specs.declared.fault.PartFault.TheVariants as part
+use Rattle.kt_merge.specs.declared.part_fault.PartFault.TheVariants as part
 use Rattle.kt_merge.specs.declared.fault.MergeFault.TheVariants as merge
 use Rattle.kt_program.specs.declared.fault.AppFault.TheVariants as app
 use Rattle.kt_program.specs.declared.fault.ProgramFault.{ProgramFault}

@@ -6,17 +6,17 @@ use Rattle.kt_log_text.specs.declared.fault.LogFault.{LogFault}
 use Rattle.kt_log_text.specs.declared.fault.LogFault.TheVariants as log
 use Rattle.kt_log_text.specs.Reading.{rows_unread}
 use Rattle.kt_log_text.specs.Texts as rows
-use Rattle.kt_chain.specs.declared.certificate.Certificate.{Certificate}
+use Rattle.kt_spacetime.specs.declared.certificate.Certificate.{Certificate}
 use Rattle.kt_chain.specs.declared.fault.CertTextFault.{CertTextFault}
 use Rattle.kt_chain.specs.declared.fault.CertTextFault.TheVariants as cert
 use Rattle.kt_chain.specs.Texts as certs
-use Rattle.kt_checker.specs.declared.verdict.Verdict.{Verdict}
-use Rattle.kt_checker.specs.declared.verdict.Verdict.TheVariants.{Yes, No}
-use Rattle.kt_checker.specs.Passing.{IsPassed}
+use Rattle.kt_spacetime.specs.declared.verdict.Verdict.{Verdict}
+use Rattle.kt_spacetime.specs.declared.verdict.Verdict.TheVariants.{Yes, No}
+use Rattle.kt_meaning.specs.Passing.{IsPassed}
 use Rattle.kt_checker.specs.Streamed.{IsAnswerOf, SaysRows}
-use Rattle.kt_checker.specs.Words.{verdict_words}
-use Rattle.kt_judge.specs.Answers.{answer_words}
-use Rattle.kt_judge.specs.declared.answer.Answer.{Answer}
+use Rattle.kt_spacetime.specs.Verdicts.{verdict_words}
+use Rattle.kt_explain.specs.Answers.{answer_words}
+use Rattle.kt_explain.specs.declared.answer.Answer.{Answer}
 use Rattle.kt_program.specs.declared.fault.AppFault.{AppFault}
 use Rattle.kt_program.specs.declared.fault.AppFault.TheVariants as app
 

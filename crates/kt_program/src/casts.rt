@@ -4,7 +4,7 @@ ghost use Rattle.std.specs.Prelude.{◌≡◌, ◌+◌, ℕ, Ok, IfOk, All, leng
 ghost use Rattle.kt_program.specs.CastRows.{IsMadeCast};
 
 use kt_base::Memory;
-use kt_held::failures;
+use kt_object::failures;
 use kt_plan::Plan;
 use std::alloc::Global;
 

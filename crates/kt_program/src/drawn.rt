@@ -18,7 +18,7 @@ use crate::told::Told;
 use kt_draw::{DrawFault, Span, draw_certified, draw_rows};
 use kt_log_text::RowReader;
 use kt_plan::Names;
-use kt_shown::Input;
+use kt_text::Input;
 use std::alloc::Global;
 use std::io::{Read, Write};
 use std::rt::Files;

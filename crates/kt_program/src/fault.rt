@@ -11,15 +11,15 @@ ghost use Rattle.kt_program.specs.Played.{of_cert_fault, of_live, of_run, of_wri
 
 use crate::told::Told;
 use kt_base::Memory;
-use kt_certify::{CertFault, StreamFault, Unfit};
+use kt_certify::StreamFault;
 use kt_chain::CertTextFault;
 use kt_core::StepFault;
 use kt_draw::{DrawFault, PictureFault};
 use kt_log_text::LogFault;
-use kt_merge::MergeFault;
-use kt_part_text::PartFault;
+use kt_merge::{MergeFault, PartFault};
 use kt_run::RunFault;
 use kt_scenario::{ScenarioFault, StepsFault};
+use kt_spacetime::{CertFault, Unfit};
 use kt_text::WriteFault;
 use kt_threads::LiveFault;
 use thiserror::Error;

@@ -4,8 +4,8 @@ use crate::fault::{AppFault, Failure, ProgramFault};
 use crate::told::{Attempt, Told, ToldRecord};
 use kt_chain::CertTextFault;
 use kt_log_text::LogFault;
-use kt_plans::Hindrance;
-use kt_shown::{certificate_form, row_form};
+use kt_promises::Hindrance;
+use kt_text::{certificate_form, row_form};
 use std::fmt;
 
 // What a number of a record is to be.

@@ -9,7 +9,7 @@ use crate::fault::{AppFault, Failure, ProgramFault};
 use crate::told::Told;
 use kt_plan::{Plan, Step};
 use kt_scenario::{ScenarioFault, StepsFault, parse, parse_steps};
-use kt_shown::Input;
+use kt_text::Input;
 use std::alloc::Global;
 use std::io::{self, Read};
 

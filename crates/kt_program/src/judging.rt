@@ -2,8 +2,8 @@
 
 ghost use Rattle.std.specs.Prelude.{◌≡◌, ℕ, None, List, [], false, IfOk, IfErr, IfSome, IsSome, option_map};
 ghost use Rattle.kt_checker.specs.Streamed.{SaysRows};
-ghost use Rattle.kt_judge.specs.Answers.{passes};
-ghost use Rattle.kt_judge.specs.declared.answer.Answer.{Answer as Answers};
+ghost use Rattle.kt_explain.specs.Answers.{passes};
+ghost use Rattle.kt_explain.specs.declared.answer.Answer.{Answer as Answers};
 ghost use Rattle.kt_program.specs.declared.fault.AppFault.TheVariants as app;
 ghost use Rattle.kt_program.specs.Certified.{IsUncertified};
 ghost use Rattle.kt_program.specs.Ending.{IsOfJudging, LeavesAnswer};
@@ -16,11 +16,9 @@ use crate::line::Judging;
 use crate::outputs::deliver;
 use crate::sources::{ReadFiles, Role, open_input};
 use crate::stored::{read_log, read_stored};
-use kt_chain::Certificate;
-use kt_explain::{Lines, Told};
-use kt_judge::{Numbered, RecordLines, judge};
-use kt_shown::{Input, Shown};
-use kt_spacetime::SpaceTime;
+use kt_explain::{Lines, Numbered, RecordLines, Told, judge};
+use kt_spacetime::{Certificate, SpaceTime};
+use kt_text::{Input, Shown};
 use std::alloc::Global;
 use std::fmt::Display;
 use std::io::{Read, Write};

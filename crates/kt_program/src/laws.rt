@@ -2,7 +2,7 @@
 
 ghost use Rattle.std.specs.Prelude.{◌≡◌, List};
 ghost use Rattle.kt_plan.specs.Limits.{Planned};
-ghost use Rattle.kt_plans.specs.Follows.{FollowsPlan};
+ghost use Rattle.kt_meaning.specs.Follows.{FollowsPlan};
 ghost use Rattle.kt_report.specs.Exact.{lost_in};
 ghost use Rattle.kt_spacetime.specs.declared.event.Event.{Event};
 

@@ -2,7 +2,7 @@
 
 ghost use Rattle.std.specs.Prelude.{◌≡◌, ◌≤◌, length, IfOk, IfErr, OnOk};
 ghost use Rattle.kt_merge.specs.Merging.{ArePartsUnread};
-ghost use Rattle.kt_merging.specs.Merged.{IsMergedText};
+ghost use Rattle.kt_merge.specs.Merged.{IsMergedText};
 ghost use Rattle.kt_program.specs.declared.ending.Done.TheVariants.{Merged};
 ghost use Rattle.kt_program.specs.Merged.{AreReadFrom, IsOfMerging, LeavesMerge, MergesTo};
 
@@ -14,9 +14,8 @@ use crate::outputs::deliver;
 use crate::sources::{ReadFiles, Role, open_input};
 use crate::told::Told;
 use kt_base::ProcNo;
-use kt_merge::Parts;
-use kt_merging::merged_text;
-use kt_shown::Input;
+use kt_merge::{Parts, merged_text};
+use kt_text::Input;
 use std::alloc::Global;
 use std::io::{Read, Write};
 use std::rt::Files;

@@ -15,7 +15,7 @@ use crate::names::{is_standard, target_of};
 use crate::sources::ReadFiles;
 use crate::told::{Attempt, Told};
 use kt_run::Keep;
-use kt_shown::Shown;
+use kt_text::Shown;
 use kt_text::pieces::write_whole;
 use std::fs::{OpenFile, OpenOptions};
 use std::io::{Sink, Write};

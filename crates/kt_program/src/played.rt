@@ -2,10 +2,10 @@
 
 ghost use Rattle.std.specs.Prelude.{◌≡◌, ◌≢◌, ◌⊎◌, [], ℕ, IfErr, OnOk, map, slice_index, slice_index_or};
 ghost use Rattle.kt_core.specs.declared.faults.StepFault.{StepFault};
-ghost use Rattle.kt_held.specs.Holdings.{content};
-ghost use Rattle.kt_held.specs.Refusals.{IsLeastRefused};
-ghost use Rattle.kt_plans.specs.Follows.{FollowsPlan};
-ghost use Rattle.kt_plans.specs.Headline.{IsCertified, IsPromised};
+ghost use Rattle.kt_object.specs.Holdings.{content};
+ghost use Rattle.kt_object.specs.Refusals.{IsLeastRefused};
+ghost use Rattle.kt_meaning.specs.Follows.{FollowsPlan};
+ghost use Rattle.kt_meaning.specs.Promised.{IsCertified, IsPromised};
 ghost use Rattle.kt_run.specs.Faults.{Answers};
 ghost use Rattle.kt_run.specs.Refused.{IsStepRefused, IsStopped};
 ghost use Rattle.kt_run.specs.Rejections.{MayReject};
@@ -21,9 +21,8 @@ use crate::fault::AppFault;
 use crate::laws::no_message_is_lost;
 use kt_certify::certificates_of_run;
 use kt_chain::write_certs;
-use kt_held::Cast;
 use kt_log_text::write_csv;
-use kt_object::Recoverable;
+use kt_object::{Cast, Recoverable};
 use kt_plan::{Plan, Step};
 use kt_report::report_of_run;
 use kt_run::{Keep, Order, kept_run_of};

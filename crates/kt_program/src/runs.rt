@@ -1,14 +1,14 @@
 //! Runs over new objects, made serially or in threads, and what is written of them.
 
 ghost use Rattle.std.specs.Prelude.{◌≡◌, ◌⊎◌, ◌<◌, [], ℕ, List, IfOk, IfErr, OnOk, All, length, map, slice_index, slice_index_or};
-ghost use Rattle.kt_held.specs.Casts.{HasSizes, HasKind};
-ghost use Rattle.kt_held.specs.Refusals.{IsLeastRefused};
+ghost use Rattle.kt_object.specs.Casts.{HasSizes, HasKind};
+ghost use Rattle.kt_object.specs.Refusals.{IsLeastRefused};
 ghost use Rattle.kt_object.specs.Reliable.{IsReliable};
 ghost use Rattle.kt_object.specs.Value.{opening_value};
 ghost use Rattle.kt_plan.specs.Limits.{IsKindOfObject};
 ghost use Rattle.kt_plan.specs.declared.steps.Step.{Step as Steps};
-ghost use Rattle.kt_plans.specs.Follows.{FollowsPlan};
-ghost use Rattle.kt_plans.specs.Headline.{IsCertified, IsPromised};
+ghost use Rattle.kt_meaning.specs.Follows.{FollowsPlan};
+ghost use Rattle.kt_meaning.specs.Promised.{IsCertified, IsPromised};
 ghost use Rattle.kt_run.specs.Rejections.{MayReject};
 ghost use Rattle.kt_scenario.specs.Steps.{most_steps};
 ghost use Rattle.kt_scenario.specs.Written.{steps_text};
@@ -27,11 +27,10 @@ use crate::outputs::{Output, Outputs};
 use kt_base::Memory;
 use kt_certify::certificates_of_run;
 use kt_chain::write_certs;
-use kt_held::Cast;
 use kt_log_text::write_csv;
-use kt_object::{Last, Object, Recoverable, SlotBook, Sum, Tail};
+use kt_object::{Cast, Last, Object, Recoverable, SlotBook, Sum, Tail};
 use kt_plan::{Plan, Step};
-use kt_plans::Hindrance;
+use kt_promises::Hindrance;
 use kt_report::report_of_run;
 use kt_run::{Keep, Order, RecordedRun, kept_run_of};
 use kt_scenario::write_steps;
@@ -142,11 +141,11 @@ fn run_of<T: Threads + Wait + Sync>(
     ensures fault { IfErr result (IsFaultOverNew run.now.by (order_by run.now.seed) plan.now steps.now) }
 {
     let _processes = plan.size();
-    kt_plans::certificates_of_promised_logs();
-    kt_plans::progress_of_runs();
-    kt_plans::steps_of_runs();
-    kt_plans::never_stuck();
-    kt_plans::told_of_runs();
+    kt_meaning::certificates_of_promised_logs();
+    kt_promises::progress_of_runs();
+    kt_promises::steps_of_runs();
+    kt_promises::never_stuck();
+    kt_promises::told_of_runs();
     kt_run::one_run();
     kt_scenario::steps_are_read_back();
     match run.by {

@@ -11,9 +11,8 @@ use crate::told::{Attempt, Told};
 use kt_base::ProcNo;
 use kt_chain::CertTextFault;
 use kt_log_text::LogFault;
-use kt_merge::MergeFault;
-use kt_part_text::PartFault;
-use kt_shown::{Input, Shown};
+use kt_merge::{MergeFault, PartFault};
+use kt_text::{Input, Shown};
 use std::rt::Files;
 use std::{fs, io};
 

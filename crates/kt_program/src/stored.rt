@@ -13,10 +13,10 @@ ghost use Rattle.kt_program.specs.Stored.{IsRefusal, SayCertificates, of_cert, o
 use crate::fault::{AppFailure, AppFault};
 use crate::told::Told;
 use csv::{ByteRecord, Reader};
-use kt_chain::{CertTextFault, Certificate, read_certs_in};
+use kt_chain::{CertTextFault, read_certs_in};
 use kt_log_text::{LogFault, RowReader, read_rows};
-use kt_shown::Input;
-use kt_spacetime::SpaceTime;
+use kt_spacetime::{Certificate, SpaceTime};
+use kt_text::Input;
 use kt_text::records::read_records;
 use std::alloc::Global;
 use std::io::Read;

@@ -3,9 +3,9 @@
 use arrayvec::ArrayString;
 use csv::{ByteRecord, Position};
 use kt_log_text::Record;
-use kt_merging::Unmerged;
-use kt_plans::Hindrance;
-use kt_shown::{Input, Limit, Place, Shown, field_at, limit_of};
+use kt_merge::Unmerged;
+use kt_promises::Hindrance;
+use kt_text::{Input, Limit, Place, Shown, field_at, limit_of};
 use std::alloc::Global;
 use std::fmt::Write;
 use std::io;

@@ -3,7 +3,7 @@ use Rattle.std.proofs.Common.{◌≡◌, ◌≢◌, ℕ, ◌+◌, ◌<◌, Bool,
 use Rattle.std.specs.Prelude.{◌==◌, ◌&&◌, ◌||◌}
 use Rattle.std.proofs.lemmas.Bool.{cases_eq}
 use Rattle.std.proofs.lemmas.Bool.Decides.{nat_tests}
-use Rattle.kt_cuts.specs.Past.{at_pair}
+use Rattle.kt_meaning.specs.Past.{at_pair}
 use Rattle.kt_protocol.proofs.Invariant.{Invariant, is_unwilling_reply, is_reply, is_unwilling_member, one}
 use Rattle.kt_protocol.proofs.Updates.{is_same}
 use Rattle.kt_protocol.proofs.Weights.{weigh, weigh_cons, weigh_with_rest, weigh_with_parcel}

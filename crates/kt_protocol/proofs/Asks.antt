@@ -5,7 +5,7 @@ use Rattle.std.specs.Prelude.{◌==◌, ◌&&◌, ℤ, if◌then◌else◌}
 use Rattle.std.proofs.lemmas.Bool.Decides.{nat_tests}
 use Rattle.kt_spacetime.specs.declared.event.Event.TheVariants.{Decided}
 use Rattle.kt_protocol.proofs.Askers.{asker_joined, outside, asker_open}
-use Rattle.kt_protocol.proofs.Invariant.{Invariant, is_message, is_ask, is_ask_with, is_decide, is_reply, Asks}
+use Rattle.kt_protocol.proofs.Invariant.{Invariant, is_message, is_ask, is_ask_with, is_decide, is_reply, Asks, with_row}
 use Rattle.kt_protocol.proofs.Updates.{at_one_other}
 use Rattle.kt_protocol.proofs.Weights.{weigh, weigh_with_rest, weigh_with_parcel, weigh_swapped, weigh_decisions, weigh_nil}
 use Rattle.kt_protocol.specs.Parcels.{App, Decide, Parcel, Lists, Ask, Reply}
@@ -15,7 +15,7 @@ use Rattle.kt_protocol.specs.Deciding.{after_decision, after_closing_rollback, a
 use Rattle.kt_protocol.specs.Joining.{after_began, after_joining_checkpoint, after_joining_rollback}
 use Rattle.kt_protocol.specs.Summary.{summary_after}
 use Rattle.kt_protocol.specs.Replies.{after_unwilling, after_replying, after_answering, after_reply, after_noting}
-use Rattle.kt_protocol.proofs.RowFacts.{checkpoint_cut_of}
+use Rattle.kt_protocol.proofs.RowFacts.{checkpoint_cut_of, HoldsBefore}
 use Rattle.kt_protocol.proofs.Choices.{same}
 use Rattle.kt_protocol.proofs.Beginning.{old, began_awaits}
 use Rattle.kt_protocol.proofs.Receiving.{Taking, message_facts}
@@ -28,8 +28,6 @@ use Rattle.kt_protocol.proofs.Deciding.{undecided_before, no_member_of_other, be
 use Rattle.kt_protocol.proofs.RollingBack.{still_got, saver}
 use Rattle.kt_protocol.proofs.NewMembers.{parent_joins}
 use Rattle.kt_spacetime.specs.declared.event.Event.{Event}
-use Rattle.kt_protocol.proofs.RowFacts.{HoldsBefore}
-use Rattle.kt_protocol.proofs.Invariant.{with_row}
 
 pub asks_opening : (n : ℕ) → Asks (opening n)
 asks_opening n = record {

@@ -1,10 +1,9 @@
 -- What a new instance, and a decision that comes, say.
-use Rattle.kt_cuts.specs.Past.{is_rollback_kind}
+use Rattle.kt_meaning.specs.Past.{is_rollback_kind, at_one}
 use Rattle.std.proofs.Common.{◌≡◌, ◌≢◌, ℕ, ◌+◌, ◌≤◌, Bool, true, false, List, [], ◌∷◌, ◌++◌, refl, arith, sym, subst, Some}
 use Rattle.std.specs.Prelude.{◌==◌, ◌&&◌}
 use Rattle.std.proofs.lemmas.Bool.Decides.{nat_tests}
 use Rattle.kt_spacetime.specs.declared.event.Event.TheVariants.{Began}
-use Rattle.kt_cuts.specs.Past.{at_one}
 use Rattle.kt_protocol.proofs.Invariant.{Invariant, is_decide, summary_push, one, same_bool}
 use Rattle.kt_protocol.proofs.Updates.{at_one_other, is_same}
 use Rattle.kt_protocol.proofs.Weights.{weigh, weigh_cons}

@@ -9,11 +9,10 @@ use Rattle.kt_protocol.proofs.Sums.{total_le, total_pairs}
 use Rattle.kt_protocol.proofs.Counting.{Counted}
 use Rattle.kt_protocol.proofs.Weights.{weigh}
 use Rattle.kt_protocol.specs.Parcels.{Lists, with_rest}
-use Rattle.kt_protocol.specs.States.{State, ProtocolStep}
+use Rattle.kt_protocol.specs.States.{State, ProtocolStep, opening}
 use Rattle.kt_protocol.specs.Messages.{after_arrival}
 use Rattle.kt_protocol.specs.Steps.{run}
 use Rattle.kt_protocol.specs.Deciding.{after_closing, after_deciding_as, after_closing_checkpoint}
-use Rattle.kt_protocol.specs.States.{opening}
 use Rattle.kt_protocol.proofs.Walk.{Moves, walk_step, kept}
 use Rattle.kt_protocol.proofs.Transitions.{invariant_opening}
 

@@ -1,13 +1,13 @@
 -- What the cuts lack is being asked for, and each row so far was right: kept by each transition.
 use Rattle.kt_base.specs.declared.words.Cause.{Cause}
-use Rattle.kt_cuts.specs.Past.{at_one}
+use Rattle.kt_meaning.specs.Past.{at_one}
 use Rattle.std.proofs.Common.{◌≡◌, ◌≢◌, ℕ, ◌+◌, ◌≤◌, Bool, true, false, List, [], ◌∷◌, ◌++◌, refl, arith, sym, inl, inr, ◌∙◌, ◌<◌, ◌⊎◌, not}
 use Rattle.std.specs.Prelude.{◌==◌, ◌&&◌, ℤ, if◌then◌else◌, nat_le}
 use Rattle.std.proofs.lemmas.Bool.Decides.{nat_tests}
 use Rattle.kt_spacetime.specs.declared.event.Event.TheVariants.{Began, Sent, Received, Dropped, Unwilling, Closed, Took, Ready, Decided}
 use Rattle.kt_protocol.proofs.Askers.{permanent_low, outside}
 use Rattle.kt_protocol.proofs.EachRow.{rows_hold_push, permanent_has_no_orphan, present_has_no_orphan}
-use Rattle.kt_protocol.proofs.Invariant.{Invariant, is_message, is_ask, is_ask_over, one, Consistent}
+use Rattle.kt_protocol.proofs.Invariant.{Invariant, is_message, is_ask, is_ask_over, one, Consistent, with_row}
 use Rattle.kt_protocol.proofs.Updates.{at_one_other}
 use Rattle.kt_protocol.proofs.Weights.{weigh, weigh_with_rest, weigh_with_parcel, weigh_swapped, weigh_decisions, weigh_put_back}
 use Rattle.kt_protocol.specs.Parcels.{App, Decide, Parcel, Lists, Ask, Reply, put_back}
@@ -18,7 +18,7 @@ use Rattle.kt_protocol.specs.Joining.{kind_for, after_began, after_joining_check
 use Rattle.kt_protocol.specs.Summary.{is_undone, summary_after, is_unreceived}
 use Rattle.std.proofs.lemmas.Bool.{cases_eq}
 use Rattle.kt_protocol.specs.Replies.{after_unwilling, after_replying, after_answering, after_reply, after_noting}
-use Rattle.kt_protocol.proofs.RowFacts.{checkpoint_cut_of}
+use Rattle.kt_protocol.proofs.RowFacts.{checkpoint_cut_of, HoldsBefore}
 use Rattle.kt_protocol.proofs.Choices.{no_rows}
 use Rattle.kt_protocol.proofs.Beginning.{old}
 use Rattle.kt_protocol.proofs.Sending.{undone_sent}
@@ -30,8 +30,6 @@ use Rattle.kt_protocol.proofs.JoiningRollbacks.{consistent_rolls, undone_rolls}
 use Rattle.kt_protocol.proofs.Deciding.{checkpoint_cut_consistent, decision_holds, undecided_before, no_member_of_other, below, all_await_none}
 use Rattle.kt_protocol.proofs.RollingBack.{was_sent, was_got}
 use Rattle.kt_spacetime.specs.declared.event.Event.{Event}
-use Rattle.kt_protocol.proofs.RowFacts.{HoldsBefore}
-use Rattle.kt_protocol.proofs.Invariant.{with_row}
 
 pub consistent_opening : (n : ℕ) → Consistent (opening n)
 consistent_opening n = record {

@@ -6,7 +6,7 @@ use Rattle.std.specs.Prelude.{◌==◌, ◌&&◌, nat_lt, if◌then◌else◌}
 use Rattle.std.proofs.lemmas.Bool.{cases_eq}
 use Rattle.std.proofs.lemmas.Bool.Decides.{nat_tests}
 use Rattle.kt_base.specs.declared.words.Cause.{Cause}
-use Rattle.kt_cuts.specs.Past.{at_one, at_pair}
+use Rattle.kt_meaning.specs.Past.{at_one, at_pair}
 use Rattle.kt_protocol.proofs.Invariant.{is_ask, is_child, one}
 use Rattle.kt_protocol.proofs.Joining.{Joining}
 use Rattle.kt_protocol.proofs.Updates.{at_one_here, at_one_other, is_other, is_same}

@@ -3,7 +3,7 @@ use Rattle.std.proofs.Common.{◌≡◌, ◌≢◌, ℕ, zero, suc, ◌≤◌, �
 use Rattle.std.proofs.lemmas.Bool.{cases_eq}
 use Rattle.std.proofs.lemmas.Bool.Decides.{nat_tests}
 use Rattle.kt_spacetime.specs.declared.event.Event.TheVariants.{Decided}
-use Rattle.kt_cuts.specs.Past.{at_one}
+use Rattle.kt_meaning.specs.Past.{at_one}
 use Rattle.std.proofs.lemmas.Bool.{cases_lt}
 use Rattle.kt_protocol.proofs.EachRow.{cut_no_orphan, permanent_has_no_orphan, present_has_no_orphan}
 use Rattle.kt_protocol.proofs.Invariant.{Invariant, is_message, is_ask, is_ask_over, is_unwilling_reply, is_reply, is_unwilling_member, summary_push}

@@ -1,12 +1,12 @@
 -- The numbers are those of the log, and the places of messages those of their deeds: kept by each transition.
-use Rattle.kt_cuts.specs.declared.deeds.Deed.TheVariants as deed
+use Rattle.kt_spacetime.specs.declared.deeds.Deed.TheVariants as deed
 use Rattle.kt_base.specs.declared.words.Cause.{Cause}
 use Rattle.std.proofs.Common.{◌≡◌, ℕ, ◌≤◌, Bool, true, false, List, [], ◌∷◌, ◌++◌, refl, arith, inl, inr, ◌<◌, ◌⊎◌, length-append}
 use Rattle.std.specs.Prelude.{ℤ}
 use Rattle.std.proofs.lemmas.Bool.Decides.{nat_tests}
 use Rattle.kt_spacetime.specs.declared.event.Event.TheVariants.{Sent, Received, Dropped, Unwilling, Closed, Took, Ready, Decided}
 use Rattle.kt_protocol.proofs.Askers.{permanent_low}
-use Rattle.kt_protocol.proofs.Invariant.{Invariant, is_message, summary_push, Histories}
+use Rattle.kt_protocol.proofs.Invariant.{Invariant, is_message, summary_push, Histories, with_row}
 use Rattle.kt_protocol.proofs.Updates.{place_cases, place_old}
 use Rattle.kt_protocol.proofs.Weights.{weigh}
 use Rattle.kt_protocol.specs.Parcels.{App, Decide, Parcel, Lists, Ask, Reply}
@@ -16,7 +16,7 @@ use Rattle.kt_protocol.specs.Deciding.{after_decision, after_closing_rollback, a
 use Rattle.kt_protocol.specs.Joining.{after_began, after_joining_checkpoint, after_joining_rollback}
 use Rattle.kt_protocol.specs.Summary.{summary_after}
 use Rattle.kt_protocol.specs.Replies.{after_unwilling, after_replying, after_answering, after_reply, after_noting}
-use Rattle.kt_protocol.proofs.RowFacts.{checkpoint_cut_of}
+use Rattle.kt_protocol.proofs.RowFacts.{checkpoint_cut_of, HoldsBefore}
 use Rattle.kt_protocol.proofs.Beginning.{summary_began_row}
 use Rattle.kt_protocol.proofs.Sending.{sent_is_push, sent_there_push, received_is_push, received_there_push}
 use Rattle.kt_protocol.proofs.Receiving.{Taking, message_facts, received_is_taken, received_there_taken}
@@ -24,8 +24,6 @@ use Rattle.kt_protocol.proofs.Joining.{Joining, Label, RollbackLabel}
 use Rattle.kt_protocol.proofs.Deciding.{summary_commits, below, all_await_none}
 use Rattle.kt_protocol.proofs.RollingBack.{cut_cases, cut_there, cut_length, was_sent, was_got}
 use Rattle.kt_spacetime.specs.declared.event.Event.{Event}
-use Rattle.kt_protocol.proofs.RowFacts.{HoldsBefore}
-use Rattle.kt_protocol.proofs.Invariant.{with_row}
 use Rattle.std.specs.Prelude.{◌+◌}
 use Rattle.std.proofs.Common.{sym, ◌∙◌}
 

@@ -3,7 +3,7 @@ use Rattle.std.proofs.Common.{◌≡◌, ◌≢◌, ℕ, ◌+◌, ◌≤◌, ◌
 use Rattle.std.specs.Prelude.{◌==◌, ◌&&◌, ◌||◌, nat_le, if◌then◌else◌, slice_get}
 use Rattle.std.proofs.lemmas.Grind.{fold-append}
 use Rattle.kt_spacetime.specs.declared.event.Event.{Event}
-use Rattle.kt_cuts.specs.declared.deeds.Deed.TheVariants as deed
+use Rattle.kt_spacetime.specs.declared.deeds.Deed.TheVariants as deed
 use Rattle.kt_protocol.proofs.Weights.{behind, one_app, weigh}
 use Rattle.kt_protocol.proofs.RowFacts.{EachRow, HoldsBefore, checkpoint_cut_of}
 use Rattle.kt_protocol.specs.Parcels.{Ask, Decide, Parcel, Reply}

@@ -3,7 +3,7 @@ use Rattle.std.proofs.Common.{◌≡◌, ◌≢◌, ℕ, ◌+◌, ◌≤◌, ◌
 use Rattle.std.specs.Prelude.{◌==◌, ◌&&◌, if◌then◌else◌}
 use Rattle.std.proofs.lemmas.Bool.{cases_eq}
 use Rattle.std.proofs.lemmas.Bool.Decides.{nat_tests}
-use Rattle.kt_cuts.specs.Past.{at_pair}
+use Rattle.kt_meaning.specs.Past.{at_pair}
 use Rattle.kt_protocol.specs.Parcels.{Ask, Parcel, Lists}
 use Rattle.kt_protocol.specs.States.{State}
 use Rattle.kt_protocol.proofs.Invariant.{Invariant, is_message, is_ask, is_child, is_reply, one}

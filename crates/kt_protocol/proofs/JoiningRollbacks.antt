@@ -3,7 +3,7 @@ use Rattle.std.proofs.Common.{◌≡◌, ◌≢◌, ℕ, ◌+◌, ◌≤◌, ◌
 use Rattle.std.specs.Prelude.{◌==◌, ◌&&◌, nat_lt, nat_le, if◌then◌else◌}
 use Rattle.std.proofs.lemmas.Bool.{cases_eq}
 use Rattle.std.proofs.lemmas.Bool.Decides.{nat_tests}
-use Rattle.kt_cuts.specs.Past.{at_pair}
+use Rattle.kt_meaning.specs.Past.{at_pair}
 use Rattle.std.proofs.lemmas.Bool.{cases_lt}
 use Rattle.kt_protocol.proofs.Invariant.{Invariant, is_message, is_ask, is_ask_over, is_ask_with, is_reply, one}
 use Rattle.kt_protocol.proofs.Updates.{is_other, is_same}

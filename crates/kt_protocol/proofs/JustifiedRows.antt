@@ -6,11 +6,11 @@ use Rattle.std.proofs.lemmas.List.{take_at}
 use Rattle.kt_base.specs.declared.words.Cause.{Cause}
 use Rattle.kt_base.specs.declared.words.Cause.TheVariants.{Busy, Down, NoSave}
 use Rattle.kt_spacetime.specs.declared.event.Event.{Event}
-use Rattle.kt_cuts.specs.Past.{past}
+use Rattle.kt_meaning.specs.Past.{past}
 use Rattle.kt_protocol.specs.States.{State, ProtocolStep, Take, opening}
 use Rattle.kt_protocol.specs.Steps.{run}
 use Rattle.kt_protocol.specs.Refusals.{IsFree, MayBeUnwilling}
-use Rattle.kt_protocol.specs.Logs.{IsJustified, JustifiesUnwilling}
+use Rattle.kt_meaning.specs.Decided.{IsJustified, JustifiesUnwilling}
 use Rattle.kt_protocol.proofs.RowFacts.{IsAsked}
 use Rattle.kt_protocol.proofs.Invariant.{Invariant}
 use Rattle.kt_protocol.proofs.Lawful.{tie}

@@ -2,11 +2,11 @@
 use Rattle.std.proofs.Common.{◌≡◌, ℕ, ◌+◌, ◌-◌, ◌≤◌, Bool, true, false, arith, refl, ◌∙◌}
 use Rattle.std.specs.Prelude.{◌==◌, ◌&&◌, nat_le, if◌then◌else◌, drop}
 use Rattle.std.proofs.lemmas.Bool.Decides.{nat_tests}
-use Rattle.kt_cuts.specs.declared.deeds.Deed.TheVariants as deed
-use Rattle.kt_cuts.specs.Past.{past}
-use Rattle.kt_cuts.specs.Legal.{has_deed}
-use Rattle.kt_cuts.proofs.Lists.{get_drop, has_from_place, deed_place}
-use Rattle.kt_cuts.proofs.OrphanFacts.{get_from_drop}
+use Rattle.kt_spacetime.specs.declared.deeds.Deed.TheVariants as deed
+use Rattle.kt_meaning.specs.Past.{past}
+use Rattle.kt_meaning.specs.Legal.{has_deed}
+use Rattle.kt_meaning.proofs.Lists.{get_drop, has_from_place, deed_place}
+use Rattle.kt_meaning.proofs.Items.{get_from_drop}
 use Rattle.kt_protocol.specs.States.{State}
 use Rattle.kt_protocol.specs.SummaryMeaning.{AgreesWith}
 use Rattle.kt_protocol.specs.InTransit.{IsKeptOfPast}

@@ -6,13 +6,13 @@ use Rattle.std.proofs.lemmas.Bool.{cases_eq, cases_lt}
 use Rattle.std.proofs.lemmas.Bool.Decides.{nat_tests}
 use Rattle.kt_spacetime.specs.declared.event.Event.{Event}
 use Rattle.kt_spacetime.specs.declared.event.Event.TheVariants.{Sent, Received, Dropped, Began, Took, Ready, Unwilling, Decided, Closed, Failed, Refused}
-use Rattle.kt_cuts.specs.declared.deeds.Deed.{Deed}
-use Rattle.kt_cuts.specs.declared.deeds.Deed.TheVariants as deed
-use Rattle.kt_cuts.specs.declared.rules.Rule.{Rule}
-use Rattle.kt_cuts.specs.declared.rules.Rule.TheVariants.{Numbers, Message, Order, Sending, Receiving, Joining, Deciding, Closing, Causes}
-use Rattle.kt_cuts.specs.Past.{Past, past, is_rollback, is_checkpoint, is_member, initiator_of}
-use Rattle.kt_cuts.specs.Legal.{IsLegal, keeps, broken_rule, is_later, has_begun, is_undecided, is_in_none, is_in, is_rolling, follows}
-use Rattle.kt_cuts.proofs.LegalLogs.{Kept}
+use Rattle.kt_spacetime.specs.declared.deeds.Deed.{Deed}
+use Rattle.kt_spacetime.specs.declared.deeds.Deed.TheVariants as deed
+use Rattle.kt_spacetime.specs.declared.rules.Rule.{Rule}
+use Rattle.kt_spacetime.specs.declared.rules.Rule.TheVariants.{Numbers, Message, Order, Sending, Receiving, Joining, Deciding, Closing, Causes}
+use Rattle.kt_meaning.specs.Past.{Past, past, is_rollback, is_checkpoint, is_member, initiator_of}
+use Rattle.kt_meaning.specs.Legal.{IsLegal, keeps, broken_rule, is_later, has_begun, is_undecided, is_in_none, is_in, is_rolling, follows}
+use Rattle.kt_meaning.proofs.LegalLogs.{Kept}
 use Rattle.kt_protocol.proofs.Invariant.{Invariant, is_message}
 use Rattle.kt_protocol.proofs.Lines.{Over, Rising, over_has, over_right, rising_split, times_apps}
 use Rattle.kt_protocol.specs.Parcels.{messages, Lists}

@@ -5,13 +5,13 @@ use Rattle.std.proofs.lemmas.Bool.{cases_eq, cases_lt}
 use Rattle.std.proofs.lemmas.Bool.Decides.{nat_tests}
 use Rattle.kt_base.specs.declared.words.Cause.{Cause}
 use Rattle.kt_spacetime.specs.declared.event.Event.TheVariants.{Began, Took, Ready, Unwilling, Decided, Closed}
-use Rattle.kt_cuts.specs.declared.deeds.Deed.{Deed}
-use Rattle.kt_cuts.specs.declared.deeds.Deed.TheVariants as deed
-use Rattle.kt_cuts.specs.Past.{Past, Beginning, after, past, at_one, is_rollback, is_checkpoint, is_committed, initiator_of}
-use Rattle.kt_cuts.specs.Legal.{broken_rule, is_in_none, follows, names_begun, excuses, may_join}
-use Rattle.kt_cuts.proofs.LegalLogs.{past_push, legal_push}
-use Rattle.kt_cuts.proofs.Lists.{get_last}
-use Rattle.kt_cuts.proofs.Places.{received_places}
+use Rattle.kt_spacetime.specs.declared.deeds.Deed.{Deed}
+use Rattle.kt_spacetime.specs.declared.deeds.Deed.TheVariants as deed
+use Rattle.kt_meaning.specs.Past.{Past, Beginning, after, past, at_one, is_rollback, is_checkpoint, is_committed, initiator_of}
+use Rattle.kt_meaning.specs.Legal.{broken_rule, is_in_none, follows, names_begun, excuses, may_join}
+use Rattle.kt_meaning.proofs.LegalLogs.{past_push, legal_push}
+use Rattle.kt_meaning.proofs.Lists.{get_last}
+use Rattle.kt_meaning.proofs.Places.{received_places}
 use Rattle.kt_protocol.proofs.Invariant.{Invariant, is_message, one}
 use Rattle.kt_protocol.proofs.Lawful.{Law, Lawful, begun_of, follows_quiet, in_it, is_undoing, line, none_in, not_member, roll_of, save_of, tie, unbroken, undecided_of, way}
 use Rattle.kt_protocol.proofs.Lines.{Over, Thin, apps_checkpoint_asks, apps_rollback_asks, over_from, over_join, over_thin, restored_other, rising_split, rising_thin, thin_all, thin_append, thin_put_back, thin_kept_where, times_apps}

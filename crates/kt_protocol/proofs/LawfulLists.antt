@@ -3,8 +3,8 @@ use Rattle.std.proofs.Common.{◌≡◌, ℕ, ◌+◌, ◌<◌, Bool, true, fals
 use Rattle.std.specs.Prelude.{◌==◌, ◌&&◌, if◌then◌else◌}
 use Rattle.std.proofs.lemmas.Bool.Decides.{nat_tests}
 use Rattle.kt_spacetime.specs.declared.event.Event.{Event}
-use Rattle.kt_cuts.specs.Past.{Past, after, past}
-use Rattle.kt_cuts.proofs.LegalLogs.{past_push}
+use Rattle.kt_meaning.specs.Past.{Past, after, past}
+use Rattle.kt_meaning.proofs.LegalLogs.{past_push}
 use Rattle.kt_protocol.proofs.Invariant.{Invariant, is_message}
 use Rattle.kt_protocol.proofs.Lawful.{Law, Lawful, line, way}
 use Rattle.kt_protocol.proofs.Lines.{Over, Rising, Thin, apps_left, apps_sending, apps_taken, thin_all, times_append, times_apps}

@@ -6,12 +6,12 @@ use Rattle.std.proofs.lemmas.Bool.Decides.{nat_tests}
 use Rattle.kt_base.specs.declared.words.Cause.{Cause}
 use Rattle.kt_base.specs.declared.words.Verb.{Verb}
 use Rattle.kt_spacetime.specs.declared.event.Event.TheVariants.{Sent, Received, Dropped, Failed, Refused}
-use Rattle.kt_cuts.specs.declared.deeds.Deed.{Deed}
-use Rattle.kt_cuts.specs.declared.deeds.Deed.TheVariants as deed
-use Rattle.kt_cuts.specs.Past.{past, at_one}
-use Rattle.kt_cuts.specs.Legal.{broken_rule, has_deed, names_begun, refuses, is_undelivered, is_latest}
-use Rattle.kt_cuts.proofs.LegalLogs.{legal_push}
-use Rattle.kt_cuts.proofs.Lists.{deed_place, has_from_place, get_push}
+use Rattle.kt_spacetime.specs.declared.deeds.Deed.{Deed}
+use Rattle.kt_spacetime.specs.declared.deeds.Deed.TheVariants as deed
+use Rattle.kt_meaning.specs.Past.{past, at_one}
+use Rattle.kt_meaning.specs.Legal.{broken_rule, has_deed, names_begun, refuses, is_undelivered, is_latest}
+use Rattle.kt_meaning.proofs.LegalLogs.{legal_push}
+use Rattle.kt_meaning.proofs.Lists.{deed_place, has_from_place, get_push}
 use Rattle.kt_protocol.proofs.Askers.{permanent_low}
 use Rattle.kt_protocol.proofs.Invariant.{Invariant}
 use Rattle.kt_protocol.proofs.Lawful.{Law, before_it, follows_quiet, is_undoing, later_from, line, none_in, not_rolling, tie, unbroken, way}

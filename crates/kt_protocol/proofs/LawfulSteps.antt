@@ -8,9 +8,9 @@ use Rattle.kt_base.specs.declared.words.Cause.{Cause}
 use Rattle.kt_base.specs.declared.words.Cause.TheVariants.{Busy, Down, NoSave}
 use Rattle.kt_base.specs.declared.words.Verb.TheVariants as verb
 use Rattle.kt_spacetime.specs.declared.event.Event.TheVariants.{Began, Took, Ready}
-use Rattle.kt_cuts.specs.Past.{Past, past, at_one, is_checkpoint}
-use Rattle.kt_cuts.specs.Legal.{is_in_none, is_in, follows, names_begun, excuses, refuses}
-use Rattle.kt_cuts.proofs.LegalLogs.{past_push}
+use Rattle.kt_meaning.specs.Past.{Past, past, at_one, is_checkpoint}
+use Rattle.kt_meaning.specs.Legal.{is_in_none, is_in, follows, names_begun, excuses, refuses}
+use Rattle.kt_meaning.proofs.LegalLogs.{past_push}
 use Rattle.kt_protocol.proofs.Replying.{ask_facts}
 use Rattle.kt_protocol.proofs.Invariant.{Invariant}
 use Rattle.kt_protocol.proofs.LawfulInstances.{law_aborting, law_closed, law_began, law_unwilling, law_committing_rollback, law_joining_rollback, law_committing_checkpoint, law_joining_checkpoint}
@@ -20,9 +20,8 @@ use Rattle.kt_protocol.proofs.Lines.{apps_with_rest, apps_with_parcel, apps_deci
 use Rattle.kt_protocol.proofs.LawfulMessages.{law_refusal, law_failing, law_dropping, law_receiving, law_sending}
 use Rattle.kt_protocol.proofs.Updates.{at_one_here, at_one_other, is_same}
 use Rattle.kt_protocol.proofs.Receiving.{Taking}
-use Rattle.kt_protocol.proofs.Transitions.{invariant_began}
+use Rattle.kt_protocol.proofs.Transitions.{invariant_began, invariant_opening}
 use Rattle.kt_protocol.proofs.StepFacts.{from_channel, from_held, new_undecided, noted_invariant}
-use Rattle.kt_protocol.proofs.Transitions.{invariant_opening}
 use Rattle.kt_protocol.proofs.Choices.{at_if}
 use Rattle.kt_protocol.proofs.LawfulLists.{Front, front_of_channel, front_of_held, law_channels, law_holding}
 use Rattle.kt_protocol.proofs.Weights.{any_app}

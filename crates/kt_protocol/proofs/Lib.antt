@@ -1,3 +1,14 @@
+pub mod MessageLists
+pub mod SameStates
+pub mod KeptLists
+pub mod LateMessages
+pub mod LateJoining
+pub mod LateDeciding
+pub mod LateClosing
+pub mod KeptSteps
+pub mod LateWholeSteps
+pub mod OwnHistories
+pub mod OwnSteps
 pub mod RowFacts
 pub mod Weights
 pub mod Invariant

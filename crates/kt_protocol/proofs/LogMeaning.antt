@@ -1,26 +1,24 @@
 -- From the machine's invariant to what the log means.
-use Rattle.kt_cuts.proofs.Items.{take_item}
-use Rattle.kt_cuts.proofs.LegalLogs.{past_push}
-use Rattle.kt_protocol.specs.Logs.{AbortsChangeNothing}
+use Rattle.kt_meaning.proofs.Items.{take_item, get_from_drop}
+use Rattle.kt_meaning.proofs.LegalLogs.{past_push, legal_take, legal_last}
+use Rattle.kt_meaning.specs.Decided.{AbortsChangeNothing, AbortsWhereUnwilling, HasLeastDecisions, HasLinkedDecisions, HasUnwilling, IsJustified, IsLeast, Links}
 use Rattle.std.proofs.Common.{◌≡◌, ◌≢◌, ℕ, zero, suc, ◌-◌, ◌≤◌, ◌<◌, Bool, true, false, not, Some, None, List, [], ◌∷◌, ◌++◌, length, take, drop, refl, arith, sym, ap, subst, inl, inr, ◌⊎◌, ◌∙◌}
 use Rattle.std.specs.Prelude.{is_some, ◌+◌, ◌||◌, ◌==◌, ◌&&◌, if◌then◌else◌, slice_get, unwrap_or, fold}
 use Rattle.std.proofs.lemmas.Bool.{cases_eq, cases_lt}
 use Rattle.kt_base.specs.declared.words.Cause.{Cause}
 use Rattle.kt_spacetime.specs.declared.event.Event.{Event}
 use Rattle.kt_spacetime.specs.declared.event.Event.TheVariants.{Sent, Received, Dropped, Began, Took, Ready, Unwilling, Decided, Closed, Failed, Refused}
-use Rattle.kt_cuts.specs.declared.deeds.Deed.TheVariants as deed
-use Rattle.kt_cuts.specs.Past.{Past, past, is_checkpoint, is_rollback, initiator_of}
-use Rattle.kt_cuts.specs.Legal.{has_begun, IsLegal, has_deed, broken_rule}
-use Rattle.kt_cuts.specs.Cuts.{IsConsistent, checkpoint_cut, rollback_cut, permanent_cut, present_cut}
-use Rattle.kt_cuts.specs.Chains.{is_sent_past, members, LinksCheckpoint, LinksRollback}
-use Rattle.kt_cuts.specs.Least.{EachLinks}
-use Rattle.kt_cuts.specs.Throughout.{LeavesConsistent, HasConsistentDecisions}
-use Rattle.kt_cuts.proofs.LegalLogs.{legal_take, legal_last}
-use Rattle.kt_cuts.proofs.RowRules.{MayDecide, may_decide}
-use Rattle.kt_cuts.proofs.Lists.{get_in_take, get_take, has_from_place, deed_place}
-use Rattle.kt_cuts.proofs.OrphanFacts.{get_from_drop}
-use Rattle.kt_cuts.proofs.Consistency.{consistent, sound_log, decisions_take}
-use Rattle.kt_cuts.proofs.Leastness.{least_checkpoint_by_links, least_rollback_by_links}
+use Rattle.kt_spacetime.specs.declared.deeds.Deed.TheVariants as deed
+use Rattle.kt_meaning.specs.Past.{Past, past, is_checkpoint, is_rollback, initiator_of}
+use Rattle.kt_meaning.specs.Legal.{has_begun, IsLegal, has_deed, broken_rule}
+use Rattle.kt_meaning.specs.Cuts.{IsConsistent, checkpoint_cut, rollback_cut, permanent_cut, present_cut}
+use Rattle.kt_meaning.specs.Chains.{is_sent_past, members, LinksCheckpoint, LinksRollback}
+use Rattle.kt_meaning.specs.Least.{EachLinks}
+use Rattle.kt_meaning.specs.Throughout.{LeavesConsistent, HasConsistentDecisions}
+use Rattle.kt_meaning.proofs.RowRules.{MayDecide, may_decide}
+use Rattle.kt_meaning.proofs.Lists.{get_in_take, get_take, has_from_place, deed_place}
+use Rattle.kt_meaning.proofs.Consistency.{consistent, sound_log, decisions_take}
+use Rattle.kt_meaning.proofs.Leastness.{least_checkpoint_by_links, least_rollback_by_links}
 use Rattle.std.proofs.lemmas.Bool.Decides.{nat_tests}
 use Rattle.kt_protocol.proofs.Invariant.{Invariant, one}
 use Rattle.kt_protocol.proofs.Lines.{times_apps}
@@ -30,7 +28,6 @@ use Rattle.kt_protocol.specs.InTransit.{IsInTransit, times}
 use Rattle.kt_protocol.specs.Parcels.{messages}
 use Rattle.kt_protocol.proofs.RowFacts.{EachRow, HasNoOrphan, IsAsked, HoldsBefore, rollback_cut_of, checkpoint_cut_of}
 use Rattle.kt_protocol.specs.States.{State}
-use Rattle.kt_protocol.specs.Logs.{AbortsWhereUnwilling, HasLeastDecisions, HasLinkedDecisions, HasUnwilling, IsJustified, IsLeast, Links}
 use Rattle.kt_protocol.specs.SummaryMeaning.{PlacesMessages, OrdersMembers, AgreesWith}
 use Rattle.kt_protocol.specs.Summary.{Summary, summary_committed, summary, summary_after, summary_start}
 use Rattle.kt_protocol.proofs.Choices.{both}

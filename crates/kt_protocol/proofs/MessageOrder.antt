@@ -1,8 +1,8 @@
 -- Messages are received in the order of their numbers.
 use Rattle.std.proofs.Common.{◌≡◌, ℕ, suc, ◌+◌, ◌<◌, Bool, true, false, List, [], ◌∷◌, ◌++◌, refl, arith, sym, Some, ◌∙◌}
 use Rattle.std.specs.Prelude.{◌==◌, if◌then◌else◌, slice_get}
-use Rattle.kt_cuts.specs.declared.deeds.Deed.{Deed}
-use Rattle.kt_cuts.specs.declared.deeds.Deed.TheVariants as deed
+use Rattle.kt_spacetime.specs.declared.deeds.Deed.{Deed}
+use Rattle.kt_spacetime.specs.declared.deeds.Deed.TheVariants as deed
 use Rattle.kt_protocol.proofs.RisingLists.{falls, falls_from, one_le, weigh_here, weigh_there}
 use Rattle.kt_protocol.proofs.Invariant.{Invariant, is_message}
 use Rattle.kt_protocol.proofs.Ordered.{Ordered}

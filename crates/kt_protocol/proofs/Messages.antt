@@ -5,7 +5,7 @@ use Rattle.std.specs.Prelude.{ℤ, nat_le}
 use Rattle.std.proofs.lemmas.Bool.Decides.{nat_tests}
 use Rattle.kt_spacetime.specs.declared.event.Event.TheVariants.{Decided}
 use Rattle.kt_protocol.proofs.Askers.{closed_no_ask, permanent_low}
-use Rattle.kt_protocol.proofs.Invariant.{Invariant, is_message, Messages}
+use Rattle.kt_protocol.proofs.Invariant.{Invariant, is_message, Messages, with_row}
 use Rattle.kt_protocol.proofs.Weights.{behind_with_rest, weigh, weigh_with_rest, weigh_with_parcel, behind_sending, behind_with_parcel, weigh_swapped, behind_decisions, weigh_decisions, behind_checkpoint_asks, behind_rollback_asks, weigh_kept_where, weigh_emptied, behind_nil, weigh_nil}
 use Rattle.kt_protocol.specs.Parcels.{App, Decide, Parcel, Lists, Ask, Reply, with_rest}
 use Rattle.kt_protocol.specs.States.{State, is_ready, opening}
@@ -14,7 +14,7 @@ use Rattle.kt_protocol.specs.Deciding.{after_decision, after_closing_rollback, a
 use Rattle.kt_protocol.specs.Joining.{after_began, after_joining_checkpoint, after_joining_rollback}
 use Rattle.kt_protocol.specs.Summary.{summary_after}
 use Rattle.kt_protocol.specs.Replies.{after_unwilling, after_replying, after_answering, after_reply, after_noting}
-use Rattle.kt_protocol.proofs.RowFacts.{checkpoint_cut_of}
+use Rattle.kt_protocol.proofs.RowFacts.{checkpoint_cut_of, HoldsBefore}
 use Rattle.kt_protocol.proofs.Receiving.{Taking, message_facts, flying_received, flying_dropped}
 use Rattle.kt_protocol.proofs.JoiningCheckpoints.{same_weight}
 use Rattle.kt_protocol.proofs.Joining.{Joining, Label, RollbackLabel}
@@ -22,8 +22,6 @@ use Rattle.kt_protocol.proofs.JoiningRollbacks.{same_weight_rollback}
 use Rattle.kt_protocol.proofs.Deciding.{below, all_await_none}
 use Rattle.kt_protocol.proofs.RollingBack.{alive, alive_sent, was_sent, flying_after}
 use Rattle.kt_spacetime.specs.declared.event.Event.{Event}
-use Rattle.kt_protocol.proofs.RowFacts.{HoldsBefore}
-use Rattle.kt_protocol.proofs.Invariant.{with_row}
 
 pub messages_opening : (n : ℕ) → Messages (opening n)
 messages_opening n = record {

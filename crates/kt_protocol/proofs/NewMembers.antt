@@ -1,7 +1,7 @@
 -- What a new member changes of who is in an instance, who asked whom, and in which order.
 use Rattle.std.proofs.Common.{◌≡◌, ◌≢◌, ℕ, ◌≤◌, ◌<◌, Bool, true, false, refl, sym, ◌∙◌}
 use Rattle.std.specs.Prelude.{◌==◌, ◌&&◌, if◌then◌else◌}
-use Rattle.kt_cuts.specs.Past.{at_pair}
+use Rattle.kt_meaning.specs.Past.{at_pair}
 use Rattle.kt_protocol.proofs.Updates.{is_same}
 use Rattle.kt_protocol.proofs.Choices.{two}
 

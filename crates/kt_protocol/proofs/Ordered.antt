@@ -6,7 +6,7 @@ use Rattle.std.specs.Prelude.{◌==◌, ◌&&◌, nat_le, if◌then◌else◌}
 use Rattle.std.proofs.lemmas.Bool.{cases_eq, cases_lt}
 use Rattle.std.proofs.lemmas.Bool.Decides.{nat_tests}
 use Rattle.kt_base.specs.declared.words.Cause.{Cause}
-use Rattle.kt_cuts.specs.Past.{at_one}
+use Rattle.kt_meaning.specs.Past.{at_one}
 use Rattle.kt_protocol.proofs.RisingLists.{falls, falls_checkpoint_asks, falls_emptied, falls_nil, falls_with_rest, falls_with_parcel, falls_put_back, falls_rollback_asks, falls_sending, falls_decisions, falls_kept_where, front_low}
 use Rattle.kt_protocol.proofs.Invariant.{is_message, one}
 use Rattle.kt_protocol.proofs.JoiningCheckpoints.{same_weight as same_weight_joins}

@@ -5,7 +5,7 @@ use Rattle.std.specs.Prelude.{ℤ}
 use Rattle.std.proofs.lemmas.Bool.Decides.{nat_tests}
 use Rattle.kt_spacetime.specs.declared.event.Event.TheVariants.{Decided}
 use Rattle.kt_protocol.proofs.Askers.{permanent_low, outside}
-use Rattle.kt_protocol.proofs.Invariant.{Invariant, is_message, Positions}
+use Rattle.kt_protocol.proofs.Invariant.{Invariant, is_message, Positions, with_row}
 use Rattle.kt_protocol.proofs.Weights.{weigh}
 use Rattle.kt_protocol.specs.Parcels.{App, Decide, Parcel, Lists, Ask, Reply}
 use Rattle.kt_protocol.specs.States.{State, is_ready, opening}
@@ -14,7 +14,7 @@ use Rattle.kt_protocol.specs.Deciding.{after_decision, after_closing_rollback, a
 use Rattle.kt_protocol.specs.Joining.{after_began, after_joining_checkpoint, after_joining_rollback}
 use Rattle.kt_protocol.specs.Summary.{summary_after}
 use Rattle.kt_protocol.specs.Replies.{after_unwilling, after_replying, after_answering, after_reply, after_noting}
-use Rattle.kt_protocol.proofs.RowFacts.{checkpoint_cut_of}
+use Rattle.kt_protocol.proofs.RowFacts.{checkpoint_cut_of, HoldsBefore}
 use Rattle.kt_protocol.proofs.Beginning.{old}
 use Rattle.kt_protocol.proofs.Receiving.{Taking}
 use Rattle.kt_protocol.proofs.Joining.{Joining, Label, RollbackLabel}
@@ -22,8 +22,6 @@ use Rattle.kt_protocol.proofs.Deciding.{undecided_before, no_member_of_other, be
 use Rattle.kt_protocol.proofs.RollingBack.{was_sent, member_base}
 use Rattle.kt_protocol.proofs.NewMembers.{instance_joins}
 use Rattle.kt_spacetime.specs.declared.event.Event.{Event}
-use Rattle.kt_protocol.proofs.RowFacts.{HoldsBefore}
-use Rattle.kt_protocol.proofs.Invariant.{with_row}
 use Rattle.std.specs.Prelude.{◌+◌}
 
 pub positions_opening : (n : ℕ) → Positions (opening n)

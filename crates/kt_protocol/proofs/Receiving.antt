@@ -3,8 +3,8 @@ use Rattle.std.proofs.Common.{◌≡◌, ◌≢◌, ℕ, ◌+◌, ◌≤◌, ◌
 use Rattle.std.specs.Prelude.{◌==◌, ◌&&◌, if◌then◌else◌, slice_get}
 use Rattle.std.proofs.lemmas.Bool.{cases_eq}
 use Rattle.std.proofs.lemmas.Bool.Decides.{nat_tests}
-use Rattle.kt_cuts.specs.declared.deeds.Deed.TheVariants as deed
-use Rattle.kt_cuts.specs.Past.{at_one}
+use Rattle.kt_spacetime.specs.declared.deeds.Deed.TheVariants as deed
+use Rattle.kt_meaning.specs.Past.{at_one}
 use Rattle.kt_protocol.proofs.Invariant.{Invariant, is_message, is_ask, one}
 use Rattle.kt_protocol.proofs.Updates.{at_one_here, at_one_other, is_same, place_cases, place_new, place_old}
 use Rattle.kt_protocol.proofs.Weights.{behind, weigh}

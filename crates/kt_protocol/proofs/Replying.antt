@@ -3,7 +3,7 @@ use Rattle.std.proofs.Common.{◌≡◌, ◌≢◌, ℕ, ◌+◌, ◌≤◌, ◌
 use Rattle.std.specs.Prelude.{◌==◌, ◌&&◌}
 use Rattle.std.proofs.lemmas.Bool.{cases_eq}
 use Rattle.std.proofs.lemmas.Bool.Decides.{nat_tests}
-use Rattle.kt_cuts.specs.Past.{at_one}
+use Rattle.kt_meaning.specs.Past.{at_one}
 use Rattle.kt_protocol.proofs.Askers.{no_app}
 use Rattle.kt_protocol.proofs.Invariant.{Invariant, is_message, is_ask, is_ask_with, is_unwilling_reply, is_unwilling_member, one}
 use Rattle.kt_protocol.proofs.Updates.{at_one_other, is_same}

@@ -2,7 +2,7 @@
 use Rattle.std.proofs.Common.{◌≡◌, ℕ, zero, suc, ◌+◌, ◌≤◌, ◌<◌, Bool, true, false, not, List, [], ◌∷◌, length, refl, arith, sym, inl, inr, ◌⊎◌, Some, ◌∙◌}
 use Rattle.std.specs.Prelude.{◌==◌, ◌&&◌, nat_le, if◌then◌else◌, slice_get}
 use Rattle.std.proofs.lemmas.Bool.Decides.{nat_tests}
-use Rattle.kt_cuts.specs.declared.deeds.Deed.{Deed}
+use Rattle.kt_spacetime.specs.declared.deeds.Deed.{Deed}
 use Rattle.std.proofs.Common.{take, length-take}
 use Rattle.kt_protocol.proofs.Deciding.{rollback_cut_consistent, received_by_members}
 use Rattle.kt_protocol.proofs.Invariant.{Invariant, is_message, one}

@@ -2,10 +2,10 @@
 use Rattle.std.specs.Prelude.{◌≡◌, ◌≢◌, not, ℕ, ◌≤◌, ◌<◌, if◌then◌else◌, Bool, true, false, List, take, slice_get, Some}
 use Rattle.kt_spacetime.specs.declared.event.Event.{Event}
 use Rattle.kt_spacetime.specs.declared.event.Event.TheVariants.{Unwilling, Decided}
-use Rattle.kt_cuts.specs.declared.deeds.Deed.TheVariants as deed
+use Rattle.kt_spacetime.specs.declared.deeds.Deed.TheVariants as deed
 use Rattle.kt_base.specs.declared.words.Cause.{Cause}
 use Rattle.kt_protocol.specs.Summary.{Summary, summary}
-use Rattle.kt_protocol.specs.Logs.{is_busy}
+use Rattle.kt_meaning.specs.Decided.{is_busy}
 
 abbrev pub checkpoint_cut_of : Summary → ℕ → ℕ → ℕ
 checkpoint_cut_of h k p = if h.joined k p then h.new k p else h.permanent p

@@ -2,10 +2,10 @@
 use Rattle.std.proofs.Common.{◌≡◌, ℕ, ◌+◌, ◌≤◌, ◌<◌, Bool, true, false, List, [], ◌∷◌, ◌++◌, refl, arith, subst, ◌∙◌}
 use Rattle.std.specs.Prelude.{◌==◌, if◌then◌else◌}
 use Rattle.std.proofs.lemmas.Bool.Decides.{nat_tests}
-use Rattle.kt_cuts.specs.declared.deeds.Deed.{Deed}
-use Rattle.kt_cuts.specs.declared.deeds.Deed.TheVariants as deed
-use Rattle.kt_cuts.specs.Past.{Past}
-use Rattle.kt_cuts.specs.Legal.{has_deed, is_deed}
+use Rattle.kt_spacetime.specs.declared.deeds.Deed.{Deed}
+use Rattle.kt_spacetime.specs.declared.deeds.Deed.TheVariants as deed
+use Rattle.kt_meaning.specs.Past.{Past}
+use Rattle.kt_meaning.specs.Legal.{has_deed, is_deed}
 use Rattle.kt_protocol.specs.Parcels.{messages}
 use Rattle.kt_protocol.specs.States.{State}
 use Rattle.kt_protocol.specs.InTransit.{times, IsInTransit, received_of, in_transit, NumbersRiseAbove, EachStandsOnce}

@@ -12,16 +12,16 @@ use Rattle.kt_base.specs.declared.words.Cause.{Cause}
 use Rattle.kt_base.specs.declared.words.Verb.{Verb}
 use Rattle.kt_spacetime.specs.declared.event.Event.{Event}
 use Rattle.kt_spacetime.specs.declared.event.Event.TheVariants.{Sent, Received, Dropped, Began, Took, Ready, Unwilling, Decided, Closed, Failed, Refused}
-use Rattle.kt_cuts.specs.declared.deeds.Deed.{Deed}
-use Rattle.kt_cuts.specs.declared.deeds.Deed.TheVariants as deed
-use Rattle.kt_cuts.specs.Past.{Past, Beginning, start, after, past, at_one, at_pair, beginning_of, kind_of, is_checkpoint_kind, is_rollback_kind}
-use Rattle.kt_cuts.specs.Legal.{IsLegal, has_begun, broken_rule}
-use Rattle.kt_cuts.specs.Chains.{members}
-use Rattle.kt_cuts.proofs.LegalLogs.{past_push, legal_log_induction}
-use Rattle.kt_cuts.proofs.RowRules.{may_take, may_get_ready, may_begin}
-use Rattle.kt_cuts.proofs.Positions.{Positions, positions}
-use Rattle.kt_cuts.proofs.Lists.{get_push, get_kept, get_last}
-use Rattle.kt_cuts.proofs.Members.{members_push}
+use Rattle.kt_spacetime.specs.declared.deeds.Deed.{Deed}
+use Rattle.kt_spacetime.specs.declared.deeds.Deed.TheVariants as deed
+use Rattle.kt_meaning.specs.Past.{Past, Beginning, start, after, past, at_one, at_pair, beginning_of, kind_of, is_checkpoint_kind, is_rollback_kind}
+use Rattle.kt_meaning.specs.Legal.{IsLegal, has_begun, broken_rule}
+use Rattle.kt_meaning.specs.Chains.{members}
+use Rattle.kt_meaning.proofs.LegalLogs.{past_push, legal_log_induction}
+use Rattle.kt_meaning.proofs.RowRules.{may_take, may_get_ready, may_begin}
+use Rattle.kt_meaning.proofs.Positions.{Positions, positions}
+use Rattle.kt_meaning.proofs.Lists.{get_push, get_kept, get_last}
+use Rattle.kt_meaning.proofs.Members.{members_push}
 use Rattle.kt_protocol.proofs.Updates.{at_one_here, at_one_other, is_same}
 use Rattle.kt_protocol.specs.SummaryMeaning.{OrdersMembers, AgreesWith}
 use Rattle.kt_protocol.specs.Summary.{Summary, summary_committed, summary, summary_after, summary_start}

@@ -5,7 +5,7 @@ use Rattle.std.specs.Prelude.{◌&&◌, ℤ, if◌then◌else◌}
 use Rattle.std.proofs.lemmas.Bool.Decides.{nat_tests}
 use Rattle.kt_spacetime.specs.declared.event.Event.TheVariants.{Decided}
 use Rattle.kt_protocol.proofs.Askers.{permanent_low}
-use Rattle.kt_protocol.proofs.Invariant.{Invariant, is_message, Tables}
+use Rattle.kt_protocol.proofs.Invariant.{Invariant, is_message, Tables, with_row}
 use Rattle.kt_protocol.proofs.Weights.{weigh}
 use Rattle.kt_protocol.specs.Parcels.{App, Decide, Parcel, Lists, Ask, Reply}
 use Rattle.kt_protocol.specs.States.{State, is_ready, opening}
@@ -14,7 +14,7 @@ use Rattle.kt_protocol.specs.Deciding.{after_decision, after_closing_rollback, a
 use Rattle.kt_protocol.specs.Joining.{after_began, after_joining_checkpoint, after_joining_rollback}
 use Rattle.kt_protocol.specs.Summary.{is_undone, summary_after, is_unreceived}
 use Rattle.kt_protocol.specs.Replies.{after_unwilling, after_replying, after_answering, after_reply, after_noting}
-use Rattle.kt_protocol.proofs.RowFacts.{checkpoint_cut_of}
+use Rattle.kt_protocol.proofs.RowFacts.{checkpoint_cut_of, HoldsBefore}
 use Rattle.kt_protocol.proofs.Beginning.{old}
 use Rattle.kt_protocol.proofs.Sending.{first_all_push}
 use Rattle.kt_protocol.proofs.Receiving.{Taking, message_facts}
@@ -22,8 +22,6 @@ use Rattle.kt_protocol.proofs.Joining.{Joining, Label, RollbackLabel}
 use Rattle.kt_protocol.proofs.Deciding.{below, all_await_none}
 use Rattle.kt_protocol.proofs.RollingBack.{was_sent, was_got, still_sent, still_got, member_base, saver}
 use Rattle.kt_spacetime.specs.declared.event.Event.{Event}
-use Rattle.kt_protocol.proofs.RowFacts.{HoldsBefore}
-use Rattle.kt_protocol.proofs.Invariant.{with_row}
 use Rattle.std.specs.Prelude.{◌+◌}
 
 pub tables_opening : (n : ℕ) → Tables (opening n)

@@ -3,8 +3,8 @@ use Rattle.kt_base.specs.declared.words.Cause.{Cause}
 use Rattle.kt_base.specs.declared.words.Verb.{Verb}
 use Rattle.std.proofs.Common.{◌≡◌, ℕ, ◌≤◌, Bool, true, false, List, [], ◌∷◌, ◌++◌, ◌<◌, ◌⊎◌}
 use Rattle.std.specs.Prelude.{ℤ}
-use Rattle.kt_spacetime.specs.declared.event.Event.TheVariants.{Decided}
-use Rattle.kt_protocol.proofs.Invariant.{Invariant, is_message}
+use Rattle.kt_spacetime.specs.declared.event.Event.TheVariants.{Decided, Failed, Refused}
+use Rattle.kt_protocol.proofs.Invariant.{Invariant, is_message, with_row}
 use Rattle.kt_protocol.proofs.Weights.{weigh}
 use Rattle.kt_protocol.specs.Parcels.{App, Decide, Parcel, Lists, Ask, Reply}
 use Rattle.kt_protocol.specs.States.{State, is_ready, opening}
@@ -13,7 +13,7 @@ use Rattle.kt_protocol.specs.Deciding.{after_decision, after_closing_rollback, a
 use Rattle.kt_protocol.specs.Joining.{after_began, after_joining_checkpoint, after_joining_rollback}
 use Rattle.kt_protocol.specs.Summary.{summary_after}
 use Rattle.kt_protocol.specs.Replies.{after_unwilling, after_replying, after_answering, after_reply, after_noting}
-use Rattle.kt_protocol.proofs.RowFacts.{checkpoint_cut_of}
+use Rattle.kt_protocol.proofs.RowFacts.{checkpoint_cut_of, HoldsBefore}
 use Rattle.kt_protocol.proofs.Histories.{histories_opening, histories_sending, histories_receiving, histories_dropping, histories_holding, histories_row, histories_began, histories_joining_checkpoint, histories_joining_rollback, histories_noting, histories_replying, histories_unwilling, histories_reply, histories_answering, histories_aborting, histories_committing_checkpoint, histories_committing_rollback, histories_closing_checkpoint, histories_closing_rollback, histories_decision}
 use Rattle.kt_protocol.proofs.Messages.{messages_opening, messages_sending, messages_receiving, messages_dropping, messages_holding, messages_row, messages_began, messages_joining_checkpoint, messages_joining_rollback, messages_noting, messages_replying, messages_unwilling, messages_reply, messages_answering, messages_aborting, messages_committing_checkpoint, messages_committing_rollback, messages_closing_checkpoint, messages_closing_rollback, messages_decision}
 use Rattle.kt_protocol.proofs.Positions.{positions_opening, positions_sending, positions_receiving, positions_dropping, positions_holding, positions_row, positions_began, positions_joining_checkpoint, positions_joining_rollback, positions_noting, positions_replying, positions_unwilling, positions_reply, positions_answering, positions_aborting, positions_committing_checkpoint, positions_committing_rollback, positions_closing_checkpoint, positions_closing_rollback, positions_decision}
@@ -25,11 +25,8 @@ use Rattle.kt_protocol.proofs.Receiving.{Taking}
 use Rattle.kt_protocol.proofs.Joining.{Joining, Label, RollbackLabel}
 use Rattle.kt_protocol.proofs.Deciding.{below, all_await_none}
 use Rattle.std.proofs.Common.{refl}
-use Rattle.kt_cuts.specs.Past.{at_one}
+use Rattle.kt_meaning.specs.Past.{at_one}
 use Rattle.kt_spacetime.specs.declared.event.Event.{Event}
-use Rattle.kt_spacetime.specs.declared.event.Event.TheVariants.{Failed, Refused}
-use Rattle.kt_protocol.proofs.RowFacts.{HoldsBefore}
-use Rattle.kt_protocol.proofs.Invariant.{with_row}
 use Rattle.kt_protocol.proofs.EachRow.{permanent_has_no_orphan, present_has_no_orphan}
 use Rattle.std.specs.Prelude.{◌+◌}
 

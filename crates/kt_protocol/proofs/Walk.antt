@@ -17,13 +17,12 @@ use Rattle.kt_protocol.specs.Steps.{after_settling, after_ask, after_front, afte
 use Rattle.kt_protocol.specs.Refusals.{IsPrevented, MayRefuse}
 use Rattle.kt_protocol.proofs.Invariant.{Invariant}
 use Rattle.kt_protocol.proofs.Choices.{at_if, same, differ, closed_of}
-use Rattle.kt_protocol.proofs.Updates.{at_one_here}
+use Rattle.kt_protocol.proofs.Updates.{at_one_here, at_pair_here}
 use Rattle.kt_protocol.proofs.Replying.{ask_facts}
 use Rattle.kt_protocol.proofs.Answering.{reply_facts}
 use Rattle.kt_protocol.proofs.Beginning.{decide_facts}
 use Rattle.kt_protocol.proofs.StepFacts.{awaits_none, invariant_closing, same_open, now_decided, invariant_deciding, noted_here, safe_open, safe_closed, safe_rollback, joining, rolling_in, noted_invariant, new_undecided, new_joining, from_channel, from_held}
 use Rattle.kt_protocol.proofs.Transitions.{invariant_opening, invariant_sending, invariant_receiving, invariant_dropping, invariant_holding, invariant_failing, invariant_refusal, invariant_began, invariant_joining_checkpoint, invariant_joining_rollback, invariant_replying, invariant_unwilling, invariant_reply, invariant_answering, invariant_decision}
-use Rattle.kt_protocol.proofs.Updates.{at_pair_here}
 
 -- what each part of step x makes of the claims
 pub record Moves (x : ProtocolStep) (B A : State → Type 0) (M D : State → ℕ → ℕ → Type 0) : Type 0 where

@@ -7,7 +7,7 @@ use Rattle.std.proofs.lemmas.Bool.{cases_eq, cases_lt}
 use Rattle.std.proofs.lemmas.Bool.Decides.{nat_tests}
 use Rattle.kt_base.specs.declared.words.Cause.{Cause}
 use Rattle.kt_base.specs.declared.words.Cause.TheVariants.{Busy}
-use Rattle.kt_cuts.specs.Past.{at_one, at_pair}
+use Rattle.kt_meaning.specs.Past.{at_one, at_pair}
 use Rattle.kt_protocol.proofs.AskedBefore.{AskedBefore, asked_before_answering, asked_before_deciding, asked_before_refusal, asked_before_decision, asked_before_failing, asked_before_holding, asked_before_joining_checkpoint, asked_before_dropping, asked_before_noting, asked_before_began, asked_before_opening, asked_before_receiving, asked_before_unwilling, asked_before_replying, asked_before_reply, asked_before_closing_rollback, asked_before_joining_rollback, asked_before_closing_checkpoint, asked_before_sending}
 use Rattle.kt_protocol.proofs.Replying.{ask_facts}
 use Rattle.kt_protocol.proofs.Deciding.{no_member_of_other, all_await_none}
@@ -20,10 +20,9 @@ use Rattle.kt_protocol.proofs.Receiving.{Taking, message_facts}
 use Rattle.kt_protocol.proofs.Waiting.{Waiting, waiting_answered, waiting_answering, waiting_closing, waiting_deciding, waiting_refusal, waiting_decision, waiting_failing, waiting_holding, waiting_ignores, waiting_joining_checkpoint, waiting_dropping, waiting_noting, waiting_began, waiting_opening, waiting_receiving, waiting_unwilling, waiting_replying, waiting_reply, waiting_joining_rollback, waiting_sending, waiting_shut}
 use Rattle.kt_protocol.proofs.TablesSince.{TablesSince, tables_since_answering, tables_since_closing, tables_since_deciding, tables_since_refusal, tables_since_decision, tables_since_failing, tables_since_holding, tables_since_joining_checkpoint, tables_since_dropping, tables_since_noting, tables_since_began, tables_since_opening, tables_since_receiving, tables_since_unwilling, tables_since_replying, tables_since_reply, tables_since_joining_rollback, tables_since_sending}
 use Rattle.kt_protocol.proofs.Beginning.{decide_facts}
-use Rattle.kt_protocol.proofs.Transitions.{invariant_began}
+use Rattle.kt_protocol.proofs.Transitions.{invariant_began, invariant_opening}
 use Rattle.kt_protocol.proofs.StepFacts.{from_channel, from_held, joining, new_empty, new_joining, rolling_in}
-use Rattle.kt_protocol.proofs.Transitions.{invariant_opening}
-use Rattle.kt_protocol.proofs.Choices.{at_if, differ}
+use Rattle.kt_protocol.proofs.Choices.{at_if, differ, three, two}
 use Rattle.kt_protocol.proofs.Counting.{Counted, counted_answering, counted_closing, counted_deciding, counted_refusal, counted_decision, counted_failing, counted_holding, counted_joining_checkpoint, counted_dropping, counted_noting, counted_began, counted_opening, counted_receiving, counted_unwilling, counted_replying, counted_reply, counted_joining_rollback, counted_sending}
 use Rattle.kt_protocol.proofs.Tells.{Tells, tells_answering, tells_closing, tells_deciding, tells_refusal, tells_decision, tells_failing, tells_holding, tells_joining_checkpoint, tells_dropping, tells_noting, tells_began, tells_opening, tells_receiving, tells_unwilling, tells_replying, tells_reply, tells_joining_rollback, tells_sending}
 use Rattle.kt_protocol.proofs.Weights.{behind, front_ask, weigh}
@@ -36,7 +35,6 @@ use Rattle.kt_protocol.specs.Deciding.{after_closing, after_deciding_as, after_d
 use Rattle.kt_protocol.specs.Joining.{must_roll, must_take, after_began, after_joining_rollback, after_joining_checkpoint}
 use Rattle.kt_protocol.proofs.Askers.{outside}
 use Rattle.kt_protocol.proofs.Walk.{Moves, walk_step, kept}
-use Rattle.kt_protocol.proofs.Choices.{three, two}
 
 -- at each point of a step
 pub record AtEachPoint (s : State) : Type 0 where

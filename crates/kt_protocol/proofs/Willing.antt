@@ -5,7 +5,7 @@ use Rattle.std.specs.Prelude.{ℤ}
 use Rattle.std.proofs.lemmas.Bool.Decides.{nat_tests}
 use Rattle.kt_spacetime.specs.declared.event.Event.TheVariants.{Decided}
 use Rattle.kt_protocol.proofs.Askers.{outside}
-use Rattle.kt_protocol.proofs.Invariant.{Invariant, is_message, is_unwilling_reply, Willing}
+use Rattle.kt_protocol.proofs.Invariant.{Invariant, is_message, is_unwilling_reply, Willing, with_row}
 use Rattle.kt_protocol.proofs.Weights.{weigh, weigh_with_rest, weigh_with_parcel, weigh_swapped, weigh_decisions, weigh_nil}
 use Rattle.kt_protocol.specs.Parcels.{App, Decide, Parcel, Lists, Ask, Reply}
 use Rattle.kt_protocol.specs.States.{State, is_ready, opening}
@@ -15,7 +15,7 @@ use Rattle.kt_protocol.specs.Joining.{after_began, after_joining_checkpoint, aft
 use Rattle.kt_protocol.specs.Summary.{summary_after}
 use Rattle.std.proofs.lemmas.Bool.{cases_eq}
 use Rattle.kt_protocol.specs.Replies.{after_unwilling, after_replying, after_answering, after_reply, after_noting}
-use Rattle.kt_protocol.proofs.RowFacts.{checkpoint_cut_of}
+use Rattle.kt_protocol.proofs.RowFacts.{checkpoint_cut_of, HoldsBefore}
 use Rattle.kt_protocol.proofs.Receiving.{Taking}
 use Rattle.kt_protocol.proofs.Replying.{unwilling_before}
 use Rattle.kt_protocol.proofs.Answering.{unwilling_member_taken, somewhere_taken, answers_somewhere}
@@ -24,8 +24,6 @@ use Rattle.kt_protocol.proofs.Joining.{Joining, Label, RollbackLabel}
 use Rattle.kt_protocol.proofs.JoiningRollbacks.{same_weight_rollback}
 use Rattle.kt_protocol.proofs.Deciding.{undecided_before, below, all_await_none}
 use Rattle.kt_spacetime.specs.declared.event.Event.{Event}
-use Rattle.kt_protocol.proofs.RowFacts.{HoldsBefore}
-use Rattle.kt_protocol.proofs.Invariant.{with_row}
 
 pub willing_opening : (n : ℕ) → Willing (opening n)
 willing_opening n = record {

@@ -1,7 +1,7 @@
 -- The rules of deciding and closing an instance.
 use Rattle.std.specs.Prelude.{ℕ, zero, suc, ◌+◌, ◌==◌, ◌&&◌, ◌||◌, not, nat_lt, nat_le, if◌then◌else◌, Bool, true, false, List, [], ◌∷◌, ◌++◌}
 use Rattle.kt_spacetime.specs.declared.event.Event.TheVariants.{Decided, Closed}
-use Rattle.kt_cuts.specs.Past.{at_one, at_pair}
+use Rattle.kt_meaning.specs.Past.{at_one, at_pair}
 use Rattle.kt_protocol.specs.Parcels.{Parcel, with_rest, with_decisions, put_back, emptied, kept_where}
 use Rattle.kt_protocol.specs.Summary.{summary_after, summary_committed, is_undone}
 use Rattle.kt_protocol.specs.States.{State}

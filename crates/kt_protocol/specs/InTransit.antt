@@ -1,9 +1,9 @@
 -- Messages in transit, and the order in which they are received.
 use Rattle.std.specs.Prelude.{◌≡◌, ◌≢◌, ℕ, ◌+◌, ◌<◌, ◌==◌, ◌&&◌, not, true, false, if◌then◌else◌, List, [], ◌∷◌, ◌++◌, drop}
-use Rattle.kt_cuts.specs.declared.deeds.Deed.{Deed}
-use Rattle.kt_cuts.specs.declared.deeds.Deed.TheVariants as deed
-use Rattle.kt_cuts.specs.Past.{Past}
-use Rattle.kt_cuts.specs.Legal.{has_deed}
+use Rattle.kt_spacetime.specs.declared.deeds.Deed.{Deed}
+use Rattle.kt_spacetime.specs.declared.deeds.Deed.TheVariants as deed
+use Rattle.kt_meaning.specs.Past.{Past}
+use Rattle.kt_meaning.specs.Legal.{has_deed}
 use Rattle.kt_protocol.specs.Parcels.{Parcel, App, Lists, messages}
 use Rattle.kt_protocol.specs.States.{State}
 

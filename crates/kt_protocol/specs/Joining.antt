@@ -3,7 +3,7 @@ use Rattle.std.specs.Prelude.{ℕ, zero, suc, ◌+◌, ◌==◌, ◌&&◌, nat_l
 use Rattle.kt_spacetime.specs.declared.event.Event.TheVariants.{Began, Took, Ready}
 use Rattle.kt_base.specs.declared.words.Kind.{Kind}
 use Rattle.kt_base.specs.declared.words.Kind.TheVariants.{Checkpoint, Rollback}
-use Rattle.kt_cuts.specs.Past.{at_one, at_pair}
+use Rattle.kt_meaning.specs.Past.{at_one, at_pair}
 use Rattle.kt_protocol.specs.Parcels.{Lists, with_checkpoint_asks, with_rollback_asks}
 use Rattle.kt_protocol.specs.Summary.{summary_after, summary_began}
 use Rattle.kt_protocol.specs.States.{State}

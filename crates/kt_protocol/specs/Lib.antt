@@ -1,4 +1,10 @@
-pub use Rattle.kt_cuts.specs.Past
+pub use Rattle.kt_meaning.specs.Past
+pub mod LateClosing
+pub mod LateSteps
+pub mod OnceClosed
+pub mod OwnHistories
+pub mod KeptInOrder
+pub mod WorkedLateRuns
 pub mod Parcels
 pub mod Summary
 pub mod States
@@ -11,5 +17,4 @@ pub mod AtRest
 pub mod Refusals
 pub mod InTransit
 pub mod SummaryMeaning
-pub mod Logs
 pub mod WorkedRuns

@@ -3,7 +3,7 @@ use Rattle.std.specs.Prelude.{ℕ, ℤ, ◌+◌, ◌==◌, nat_lt, if◌then◌e
 use Rattle.kt_spacetime.specs.declared.event.Event.TheVariants.{Sent, Received, Dropped, Failed, Refused}
 use Rattle.kt_base.specs.declared.words.Cause.{Cause}
 use Rattle.kt_base.specs.declared.words.Verb.{Verb}
-use Rattle.kt_cuts.specs.Past.{at_one, at_pair}
+use Rattle.kt_meaning.specs.Past.{at_one, at_pair}
 use Rattle.kt_protocol.specs.Parcels.{Parcel, App, Lists, with_parcel, with_rest}
 use Rattle.kt_protocol.specs.Summary.{summary_after}
 use Rattle.kt_protocol.specs.States.{State}

@@ -4,7 +4,7 @@ use Rattle.kt_base.specs.declared.words.Cause.{Cause}
 use Rattle.kt_base.specs.declared.words.Cause.TheVariants.{Busy, Down, NoSave}
 use Rattle.kt_base.specs.declared.words.Verb.{Verb}
 use Rattle.kt_base.specs.declared.words.Verb.TheVariants as verb
-use Rattle.kt_cuts.specs.declared.deeds.Deed.TheVariants as deed
+use Rattle.kt_spacetime.specs.declared.deeds.Deed.TheVariants as deed
 use Rattle.kt_protocol.specs.Summary.{Summary}
 use Rattle.kt_protocol.specs.States.{State, ProtocolStep, Send, Begin, Fail, Take}
 use Rattle.kt_protocol.specs.Steps.{run}

@@ -2,9 +2,9 @@
 use Rattle.std.specs.Prelude.{ℕ, ◌+◌, ◌&&◌, not, nat_le, if◌then◌else◌, Bool, true, false, Some, List, [], ◌∷◌, ◌++◌, take, fold}
 use Rattle.kt_spacetime.specs.declared.event.Event.{Event}
 use Rattle.kt_spacetime.specs.declared.event.Event.TheVariants.{Sent, Received, Dropped, Began, Took, Ready, Unwilling, Decided, Closed, Failed, Refused}
-use Rattle.kt_cuts.specs.declared.deeds.Deed.{Deed}
-use Rattle.kt_cuts.specs.declared.deeds.Deed.TheVariants as deed
-use Rattle.kt_cuts.specs.Past.{at_one, at_pair, is_rollback_kind}
+use Rattle.kt_spacetime.specs.declared.deeds.Deed.{Deed}
+use Rattle.kt_spacetime.specs.declared.deeds.Deed.TheVariants as deed
+use Rattle.kt_meaning.specs.Past.{at_one, at_pair, is_rollback_kind}
 
 -- what is known after some rows
 pub record Summary : Type 0 where

@@ -1,10 +1,10 @@
 -- The numbers of a summary tell what a log means.
 use Rattle.std.specs.Prelude.{◌≡◌, ◌↔◌, ℕ, ◌<◌, ◌==◌, ◌&&◌, not, if◌then◌else◌, true, Some, None, List, length, slice_get}
 use Rattle.kt_spacetime.specs.declared.event.Event.{Event}
-use Rattle.kt_cuts.specs.Past.{Past, is_checkpoint, is_rollback}
-use Rattle.kt_cuts.specs.Legal.{has_begun, has_deed}
-use Rattle.kt_cuts.specs.declared.deeds.Deed.TheVariants as deed
-use Rattle.kt_cuts.specs.Chains.{members}
+use Rattle.kt_meaning.specs.Past.{Past, is_checkpoint, is_rollback}
+use Rattle.kt_meaning.specs.Legal.{has_begun, has_deed}
+use Rattle.kt_spacetime.specs.declared.deeds.Deed.TheVariants as deed
+use Rattle.kt_meaning.specs.Chains.{members}
 use Rattle.kt_protocol.specs.Summary.{Summary}
 
 -- they are what is known of a log

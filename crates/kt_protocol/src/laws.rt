@@ -4,10 +4,10 @@ ghost use Rattle.std.specs.Prelude.{◌≡◌, ◌≤◌, ◌<◌, ◌*◌, ◌-
 ghost use Rattle.kt_base.specs.declared.words.Cause.{Cause};
 ghost use Rattle.kt_base.specs.declared.words.Verb.{Verb};
 ghost use Rattle.kt_spacetime.specs.declared.event.Event.TheVariants.{Unwilling, Refused};
-ghost use Rattle.kt_cuts.specs.Past.{past, initiator_of};
-ghost use Rattle.kt_cuts.specs.Legal.{IsLegal};
-ghost use Rattle.kt_cuts.specs.Cuts.{IsConsistent, permanent_cut, present_cut};
-ghost use Rattle.kt_cuts.specs.Throughout.{HasConsistentDecisions};
+ghost use Rattle.kt_meaning.specs.Past.{past, initiator_of};
+ghost use Rattle.kt_meaning.specs.Legal.{IsLegal};
+ghost use Rattle.kt_meaning.specs.Cuts.{IsConsistent, permanent_cut, present_cut};
+ghost use Rattle.kt_meaning.specs.Throughout.{HasConsistentDecisions};
 ghost use Rattle.kt_protocol.specs.Parcels.{messages};
 ghost use Rattle.kt_protocol.specs.Summary.{summary, is_undone};
 ghost use Rattle.kt_protocol.specs.States.{ProtocolStep, Take, opening, can_take};
@@ -16,7 +16,7 @@ ghost use Rattle.kt_protocol.specs.AtRest.{IsAtRest};
 ghost use Rattle.kt_protocol.specs.Refusals.{IsUnwillingRow, IsRefusedRow};
 ghost use Rattle.kt_protocol.specs.InTransit.{IsInTransit, IsKeptOfPast, EachStandsOnce, NumbersRiseAbove, received_of, in_transit, HasNoMessage};
 ghost use Rattle.kt_protocol.specs.SummaryMeaning.{AgreesWith, OrdersMembers, PlacesMessages};
-ghost use Rattle.kt_protocol.specs.Logs.{HasLinkedDecisions, HasLeastDecisions, AbortsWhereUnwilling, AbortsChangeNothing, JustifiesUnwilling};
+ghost use Rattle.kt_meaning.specs.Decided.{HasLinkedDecisions, HasLeastDecisions, AbortsWhereUnwilling, AbortsChangeNothing, JustifiesUnwilling};
 ghost use Rattle.kt_protocol.specs.WorkedRuns.{checkpoint_of_two_steps, checkpoint_of_two, checkpoint_before_the_message_comes_steps, checkpoint_before_the_message_comes, checkpoint_round_a_ring_steps, checkpoint_round_a_ring, second_checkpoint_of_one_steps, second_checkpoint_of_one, second_checkpoint_of_two_steps, second_checkpoint_of_two, two_checkpoints_at_once_steps, two_checkpoints_at_once, process_that_is_down_refuses_steps, process_that_is_down_refuses, two_aborts_steps, two_aborts, busy_process_refuses_steps, busy_process_refuses, two_instances_abort_each_other_steps, two_instances_abort_each_other, rollback_after_a_failure_steps, rollback_after_a_failure, failure_inside_a_checkpoint_steps, failure_inside_a_checkpoint, rollback_of_the_receiver_alone_steps, rollback_of_the_receiver_alone, messages_received_again_steps, messages_received_again, rollback_meets_a_message_in_transit_steps, rollback_meets_a_message_in_transit, rollback_through_three_steps, rollback_through_three, undone_message_is_not_received_again_steps, undone_message_is_not_received_again, dropped_message_steps, dropped_message, command_refused_as_busy_steps, command_refused_as_busy, commands_refused_as_down_steps, commands_refused_as_down, object_that_is_not_saved_steps, object_that_is_not_saved, send_waits_in_a_checkpoint_steps, send_waits_in_a_checkpoint, held_message_that_is_undone_steps, held_message_that_is_undone, kept_before_held_steps, kept_before_held, label_after_an_abort_steps, label_after_an_abort};
 
 /// For every list of steps: what the log of the run is.

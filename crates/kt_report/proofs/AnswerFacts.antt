@@ -7,7 +7,7 @@ use Rattle.std.proofs.lemmas.Bool.{eqb-true, eqb-false}
 use Rattle.std.proofs.lemmas.List.{map-append, map-set, length-map, get_or-map, get_or-set_same, get_or-set_other, append-nil}
 use Rattle.kt_spacetime.specs.declared.event.Event.{Event}
 use Rattle.kt_spacetime.specs.declared.event.Event.TheVariants.{Unwilling}
-use Rattle.kt_chain.specs.declared.certificate.Certificate.{Certificate}
+use Rattle.kt_spacetime.specs.declared.certificate.Certificate.{Certificate}
 use Rattle.kt_log_text.specs.Spelling.{cause_word}
 use Rattle.kt_report.specs.Lines.{line, name_of, member_line, unwilling_line}
 use Rattle.kt_report.specs.Unwilling.{UnwillingAnswer, answer_line, unwilling_in, unwilling_of, answers_to}

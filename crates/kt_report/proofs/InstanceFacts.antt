@@ -7,12 +7,12 @@ use Rattle.std.proofs.lemmas.List.{map-append, length-map}
 use Rattle.std.proofs.lemmas.Option.{slice_get-map}
 use Rattle.kt_base.specs.declared.words.Kind.{Kind}
 use Rattle.kt_spacetime.specs.declared.event.Event.TheVariants as event
-use Rattle.kt_cuts.specs.Past.{Past, after, at_one, kind_of, is_rollback, is_committed, is_rollback_kind}
-use Rattle.kt_cuts.specs.Legal.{has_begun}
-use Rattle.kt_cuts.specs.Standing.{at_number}
-use Rattle.kt_cuts.proofs.InstanceSteps.{old_item, new_item, no_item}
-use Rattle.kt_cuts.proofs.Items.{get_set_same, get_set_other, set_mapped}
-use Rattle.kt_cuts.proofs.Shown.{at_same, at_other}
+use Rattle.kt_meaning.specs.Past.{Past, after, at_one, kind_of, is_rollback, is_committed, is_rollback_kind}
+use Rattle.kt_meaning.specs.Legal.{has_begun}
+use Rattle.kt_rules.specs.Standing.{at_number}
+use Rattle.kt_rules.proofs.InstanceSteps.{old_item, new_item, no_item}
+use Rattle.kt_meaning.proofs.Items.{get_set_same, get_set_other, set_mapped}
+use Rattle.kt_meaning.proofs.Shown.{at_same, at_other}
 use Rattle.kt_report.specs.declared.closings.Instance.{Instance}
 use Rattle.kt_report.specs.Shown.{ShowsReportInstances, is_committed_one}
 

@@ -5,16 +5,16 @@ use Rattle.std.specs.List.{range_with_len}
 use Rattle.std.proofs.lemmas.List.Sums.{sum_by_push}
 use Rattle.kt_spacetime.specs.declared.event.Event.{Event}
 use Rattle.kt_spacetime.specs.declared.event.Event.TheVariants.{Sent, Received}
-use Rattle.kt_cuts.specs.declared.deeds.Deed.TheVariants as deed
-use Rattle.kt_cuts.specs.Past.{past}
-use Rattle.kt_cuts.specs.Legal.{IsLegal}
-use Rattle.kt_cuts.specs.Messages.{row_at, IsMessage}
-use Rattle.kt_cuts.proofs.LegalLogs.{legal_last}
-use Rattle.kt_cuts.proofs.Lists.{deed_place}
-use Rattle.kt_cuts.proofs.Places.{rowed}
-use Rattle.kt_cuts.proofs.RowRules.{may_receive}
-use Rattle.kt_values.specs.Done.{done}
-use Rattle.kt_values.proofs.ListedMessages.{body_is}
+use Rattle.kt_spacetime.specs.declared.deeds.Deed.TheVariants as deed
+use Rattle.kt_meaning.specs.Past.{past}
+use Rattle.kt_meaning.specs.Legal.{IsLegal}
+use Rattle.kt_meaning.specs.Messages.{row_at, IsMessage}
+use Rattle.kt_meaning.proofs.LegalLogs.{legal_last}
+use Rattle.kt_meaning.proofs.Lists.{deed_place}
+use Rattle.kt_meaning.proofs.Places.{rowed}
+use Rattle.kt_meaning.proofs.RowRules.{may_receive}
+use Rattle.kt_machine.specs.Done.{done}
+use Rattle.kt_machine.proofs.ListedMessages.{body_is}
 
 -- a row by its number
 pub row_at_place : (rows : List Event) (i n : ℕ) → i + 1 ≡ n → row_at rows n ≡ slice_get rows i

@@ -8,15 +8,14 @@ use Rattle.std.proofs.lemmas.List.FromFn.{fill_by_all}
 use Rattle.std.proofs.lemmas.Option.{slice_get-map, slice_get_within, get_or_from_slice_get}
 use Rattle.kt_spacetime.specs.declared.event.Event.{Event}
 use Rattle.kt_spacetime.specs.Events.{process_of}
-use Rattle.kt_cuts.specs.Legal.{IsLegal}
-use Rattle.kt_cuts.proofs.Items.{item_there, get_set_same, get_set_other}
-use Rattle.kt_cuts.proofs.SortedFacts.{some_same}
+use Rattle.kt_meaning.specs.Legal.{IsLegal}
+use Rattle.kt_meaning.proofs.Items.{item_there, get_set_same, get_set_other, some_same}
 use Rattle.kt_plan.specs.declared.steps.Act.{Act as PlainAct}
-use Rattle.kt_values.specs.Done.{done}
+use Rattle.kt_machine.specs.Done.{done}
 use Rattle.kt_object.specs.Value.{after, offered}
-use Rattle.kt_values.specs.Values.{Act, Apply, Rules, Due, due, first_due, does, does_all, acts_of}
-use Rattle.kt_values.specs.Offers.{offer}
-use Rattle.kt_values.proofs.ActsAlong.{along}
+use Rattle.kt_machine.specs.Values.{Act, Apply, Rules, Due, due, first_due, does, does_all, acts_of}
+use Rattle.kt_machine.specs.Offers.{offer}
+use Rattle.kt_machine.proofs.ActsAlong.{along}
 use Rattle.kt_report.specs.declared.offers.Offers.{Offers}
 use Rattle.kt_report.specs.Exact.{rules_of_kind, offers_in}
 use Rattle.kt_report.specs.Shown.{act_of, offers_of, ShowsOffers}

@@ -5,7 +5,7 @@ use Rattle.std.proofs.lemmas.List.{length-map}
 use Rattle.std.specs.List.{flat_map}
 use Rattle.std.specs.Io.KnownBytes.{Appends}
 use Rattle.kt_spacetime.specs.declared.event.Event.{Event}
-use Rattle.kt_chain.specs.declared.certificate.Certificate.{Certificate}
+use Rattle.kt_spacetime.specs.declared.certificate.Certificate.{Certificate}
 use Rattle.kt_text.specs.Writing.{Sends, WritesFront}
 use Rattle.kt_text.proofs.PieceFacts.{sends_gathered, sends_rest, front_none, front_last, front_longer}
 use Rattle.kt_plan.specs.Limits.{Planned}

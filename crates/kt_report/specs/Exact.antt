@@ -5,11 +5,11 @@ use Rattle.kt_object.specs.Value.{opening_value, after, offered}
 use Rattle.kt_plan.specs.Limits.{Planned}
 use Rattle.kt_spacetime.specs.declared.event.Event.{Event}
 use Rattle.kt_spacetime.specs.declared.event.Event.TheVariants.{Sent}
-use Rattle.kt_cuts.specs.Past.{Past, past}
-use Rattle.kt_cuts.specs.Legal.{is_undelivered}
-use Rattle.kt_values.specs.Values.{Rules}
-use Rattle.kt_values.specs.Offers.{offer}
-use Rattle.kt_chain.specs.declared.certificate.Certificate.{Certificate}
+use Rattle.kt_meaning.specs.Past.{Past, past}
+use Rattle.kt_meaning.specs.Legal.{is_undelivered}
+use Rattle.kt_machine.specs.Values.{Rules}
+use Rattle.kt_machine.specs.Offers.{offer}
+use Rattle.kt_spacetime.specs.declared.certificate.Certificate.{Certificate}
 use Rattle.kt_report.specs.Report.{report_with}
 
 -- how an object of a kind behaves: its first value, its value after a message, and what it offers

@@ -6,7 +6,7 @@ use Rattle.kt_spacetime.specs.declared.event.Event.{Event}
 use Rattle.kt_spacetime.specs.declared.event.Event.TheVariants.{Sent, Unwilling, Refused}
 use Rattle.kt_text.specs.Words.{kind_word, decision_word}
 use Rattle.kt_chain.specs.Spelling.{Member}
-use Rattle.kt_chain.specs.declared.certificate.Certificate.{Certificate}
+use Rattle.kt_spacetime.specs.declared.certificate.Certificate.{Certificate}
 use Rattle.kt_log_text.specs.Spelling.{verb_word, cause_word}
 
 -- words separated by blanks and ended by a line feed

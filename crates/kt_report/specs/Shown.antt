@@ -3,17 +3,17 @@ use Rattle.std.specs.Prelude.{◌≡◌, ℕ, ℤ, Bool, false, List, [], ◌∷
 use Rattle.kt_plan.specs.declared.steps.Act.{Act as PlainAct}
 use Rattle.kt_plan.specs.declared.steps.Act.TheVariants as plain
 use Rattle.kt_spacetime.specs.declared.event.Event.{Event}
-use Rattle.kt_cuts.specs.Past.{Past, past, is_committed}
-use Rattle.kt_cuts.specs.Standing.{at_number}
+use Rattle.kt_meaning.specs.Past.{Past, past, is_committed}
+use Rattle.kt_rules.specs.Standing.{at_number}
 use Rattle.kt_object.specs.Value.{offered}
-use Rattle.kt_values.specs.Done.{done}
-use Rattle.kt_values.specs.Values.{Act, Apply, Keep, Promote, Discard, Restore, Drop, Due, due}
+use Rattle.kt_machine.specs.Done.{done}
+use Rattle.kt_machine.specs.Values.{Act, Apply, Keep, Promote, Discard, Restore, Drop, Due, due}
 use Rattle.kt_report.specs.declared.offers.Offers.{Offers}
 use Rattle.kt_report.specs.declared.closings.Instance.{Instance}
 use Rattle.kt_report.specs.declared.replay.Replay.{Replay}
 use Rattle.kt_report.specs.Exact.{rules_of_kind}
 
--- an act as kt_values has it, where there is one
+-- an act as kt_machine has it, where there is one
 abbrev pub act_of : PlainAct → List Act
 act_of plain.Nothing = []
 act_of (plain.Apply from body) = Apply from body ∷ []

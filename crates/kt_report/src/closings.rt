@@ -3,9 +3,9 @@
 ghost use Rattle.std.specs.Prelude.{◌≡◌, ◌++◌, ◌∷◌, [], ℕ, List, Some, true, OnOk};
 ghost use Rattle.kt_spacetime.specs.declared.event.Event.{Event};
 ghost use Rattle.kt_spacetime.specs.declared.event.Event.TheVariants as event;
-ghost use Rattle.kt_cuts.specs.Past.{Past, past, after, is_rollback, is_committed, is_rollback_kind};
-ghost use Rattle.kt_cuts.specs.Legal.{IsLegal, has_begun};
-ghost use Rattle.kt_values.specs.Values.{closing};
+ghost use Rattle.kt_meaning.specs.Past.{Past, past, after, is_rollback, is_committed, is_rollback_kind};
+ghost use Rattle.kt_meaning.specs.Legal.{IsLegal, has_begun};
+ghost use Rattle.kt_machine.specs.Values.{closing};
 ghost use Rattle.kt_report.specs.Shown.{ShowsReportInstances, act_of};
 
 use kt_base::{InstNo, Kind, Memory};

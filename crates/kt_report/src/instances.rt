@@ -10,9 +10,8 @@ ghost use Rattle.kt_report.specs.Lines.{chain_words, ends_word, instance_line, i
 use crate::unwilling::Unwilling;
 use crate::words::{end_line, name_text, push_word, put_cause, put_word};
 use kt_base::{Cause, Memory, MsgNo, ProcNo};
-use kt_chain::{Certificate, Chain};
 use kt_plan::Names;
-use kt_spacetime::Event;
+use kt_spacetime::{Certificate, Chain, Event};
 use kt_text::WriteFault;
 use kt_text::fields::{decision_text, kind_text};
 use kt_text::lines::Line;

@@ -2,8 +2,8 @@
 
 ghost use Rattle.std.specs.Prelude.{◌≡◌, ◌≤◌, ◌<◌, ◌+◌, ◌^◌, ◌++◌, ◌∷◌, [], List, Some, true, false, length, count_by, OnOk, IfOk};
 ghost use Rattle.kt_spacetime.specs.declared.event.Event.{Event};
-ghost use Rattle.kt_cuts.specs.Past.{past};
-ghost use Rattle.kt_cuts.specs.Legal.{IsLegal};
+ghost use Rattle.kt_meaning.specs.Past.{past};
+ghost use Rattle.kt_meaning.specs.Legal.{IsLegal};
 ghost use Rattle.kt_walk.specs.WalkOf.{WalkOf};
 ghost use Rattle.kt_report.specs.Exact.{is_lost, lost_in};
 ghost use Rattle.kt_report.specs.Lines.{losses_line};
@@ -11,7 +11,7 @@ ghost use Rattle.kt_report.specs.Report.{is_drop};
 
 use crate::words::{end_line, push_word};
 use kt_base::{Memory, MsgNo};
-use kt_cuts::LegalFault;
+use kt_rules::LegalFault;
 use kt_spacetime::Event;
 use kt_walk::Walk;
 use std::alloc::Global;

@@ -2,7 +2,7 @@
 
 ghost use Rattle.std.specs.Prelude.{◌≡◌, ℕ, ℤ, List};
 ghost use Rattle.kt_object.specs.Value.{after, offered};
-ghost use Rattle.kt_values.specs.Values.{Apply, Due, does, does_all, first_due};
+ghost use Rattle.kt_machine.specs.Values.{Apply, Due, does, does_all, first_due};
 ghost use Rattle.kt_report.specs.Exact.{rules_of_kind};
 ghost use Rattle.kt_report.specs.Shown.{act_of, offers_of};
 

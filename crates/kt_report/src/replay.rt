@@ -4,10 +4,10 @@ ghost use Rattle.std.specs.Prelude.{◌≡◌, ◌++◌, ◌∷◌, [], ℕ, ℤ
 ghost use Rattle.kt_spacetime.specs.declared.event.Event.{Event};
 ghost use Rattle.kt_spacetime.specs.declared.event.Event.TheVariants as event;
 ghost use Rattle.kt_spacetime.specs.Events.{process_of};
-ghost use Rattle.kt_cuts.specs.Past.{past};
-ghost use Rattle.kt_cuts.specs.Legal.{IsLegal};
-ghost use Rattle.kt_values.specs.Done.{done};
-ghost use Rattle.kt_values.specs.Values.{acts_of};
+ghost use Rattle.kt_meaning.specs.Past.{past};
+ghost use Rattle.kt_meaning.specs.Legal.{IsLegal};
+ghost use Rattle.kt_machine.specs.Done.{done};
+ghost use Rattle.kt_machine.specs.Values.{acts_of};
 ghost use Rattle.kt_report.specs.Shown.{ReplayOf, ShowsReportInstances, ShowsOffers, act_of};
 
 use crate::closings::{Instance, closing, note};

@@ -6,25 +6,25 @@ use Rattle.kt_plan.specs.Limits.{IsPlan, Planned}
 use Rattle.kt_object.specs.Value.{offered}
 use Rattle.std.specs.declared.alloc.Global.{Global}
 use Rattle.std.specs.declared.dyn_box.DynBox.{DynBox}
-use Rattle.kt_held.specs.Fits.{spares_of_all}
-use Rattle.kt_held.specs.Holdings.{Content, content, Holding, Holds, does_all}
-use Rattle.kt_held.specs.declared.held.Held.{Held}
+use Rattle.kt_object.specs.Fits.{spares_of_all}
+use Rattle.kt_object.specs.Holdings.{Content, content, Holding, Holds, does_all}
+use Rattle.kt_object.specs.declared.held.Held.{Held}
 use Rattle.kt_plan.specs.declared.steps.Step.{Step}
 use Rattle.kt_plan.specs.declared.steps.Give.{Give}
 use Rattle.kt_plan.specs.declared.steps.Act.{Act}
 use Rattle.kt_plan.specs.declared.steps.Told.{Told}
 use Rattle.kt_plan.specs.declared.steps.Look.{Look}
 use Rattle.kt_plan.specs.declared.steps.Look.TheVariants as look
-use Rattle.kt_plans.specs.Looks.{look}
-use Rattle.kt_plans.specs.Offers.{GivesOffer}
-use Rattle.kt_plans.specs.Runs.{RunReaches}
-use Rattle.kt_plans.specs.StepActs.{acts_of_step}
-use Rattle.kt_plans.specs.Steps.{enabled, progress_after, process_of_step}
-use Rattle.kt_plans.specs.Progress.{Progress}
+use Rattle.kt_promises.specs.Looks.{look}
+use Rattle.kt_promises.specs.Offers.{GivesOffer}
+use Rattle.kt_promises.specs.Runs.{RunReaches}
+use Rattle.kt_promises.specs.StepActs.{acts_of_step}
+use Rattle.kt_promises.specs.Steps.{enabled, progress_after, process_of_step}
+use Rattle.kt_promises.specs.Progress.{Progress}
 use Rattle.kt_system.specs.ShownActs.{acts_shown}
-use Rattle.kt_values.specs.Done.{done}
-use Rattle.kt_values.specs.Values as values
-use Rattle.kt_values.specs.Values.{Rules, Due, due, first_due, acts_along}
+use Rattle.kt_machine.specs.Done.{done}
+use Rattle.kt_machine.specs.Values as values
+use Rattle.kt_machine.specs.Values.{Rules, Due, due, first_due, acts_along}
 use Rattle.kt_core.specs.Shown.{Mirrors}
 use Rattle.kt_core.specs.Worlds.{World}
 use Rattle.kt_run.specs.Objects.{Belongings, belongings_of, first_of, rules_by, HoldDue, IsDone}

@@ -3,9 +3,9 @@ use Rattle.std.proofs.Common.{◌≡◌, ◌≢◌, ◌<◌, ℕ, List, false, l
 use Rattle.kt_core.specs.declared.faults.StepFault.{StepFault}
 use Rattle.kt_run.specs.declared.faults.RunFault.{RunFault}
 use Rattle.kt_run.specs.declared.faults.RunFault.TheVariants.{CastSize, CastKind, Step, Journal, Object, Memory}
-use Rattle.kt_held.specs.Casts.{HasSizes, HasKind, is_checked}
-use Rattle.kt_held.specs.declared.faults.CastFault.{CastFault}
-use Rattle.kt_held.specs.declared.faults.CastFault.TheVariants as cast
+use Rattle.kt_object.specs.Casts.{HasSizes, HasKind, is_checked}
+use Rattle.kt_object.specs.declared.held_faults.CastFault.{CastFault}
+use Rattle.kt_object.specs.declared.held_faults.CastFault.TheVariants as cast
 use Rattle.kt_plan.specs.Limits.{Planned}
 use Rattle.kt_run.specs.Faults.{Answers, IsCast, is_of_cast, of_cast}
 

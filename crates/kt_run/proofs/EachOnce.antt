@@ -10,8 +10,8 @@ use Rattle.std.proofs.lemmas.List.Quantifiers.{all_pairs_push}
 use Rattle.kt_plan.specs.Limits.{Planned}
 use Rattle.kt_plan.specs.declared.steps.Step.{Step}
 use Rattle.kt_plan.specs.declared.steps.Step.TheVariants.{Do, Take}
-use Rattle.kt_plans.specs.Progress.{Progress, next_command}
-use Rattle.kt_plans.specs.Steps.{can_take_from, enabled, may_do}
+use Rattle.kt_promises.specs.Progress.{Progress, next_command}
+use Rattle.kt_promises.specs.Steps.{can_take_from, enabled, may_do}
 use Rattle.kt_core.specs.Choices.{takes_of, steps_of, steps_of_first, all_steps, enabled_steps}
 
 -- the place of a step among all that n processes could make

@@ -1,12 +1,12 @@
 -- What stands in the way of a step that is given.
 use Rattle.std.specs.Prelude.{Option, not, if◌then◌else◌}
 use Rattle.std.proofs.Common.{◌≡◌, ◌≢◌, ℕ, Bool, true, false, Some, None, List, refl, sym, subst}
-use Rattle.kt_held.specs.Holdings.{Content}
+use Rattle.kt_object.specs.Holdings.{Content}
 use Rattle.kt_plan.specs.Limits.{Planned}
 use Rattle.kt_plan.specs.declared.steps.Step.{Step}
-use Rattle.kt_plans.specs.Hindrances.{hindrance}
-use Rattle.kt_plans.specs.declared.hindrances.Hindrance.{Hindrance}
-use Rattle.kt_plans.specs.Progress.{Progress}
+use Rattle.kt_promises.specs.Hindrances.{hindrance}
+use Rattle.kt_promises.specs.declared.hindrances.Hindrance.{Hindrance}
+use Rattle.kt_promises.specs.Progress.{Progress}
 use Rattle.kt_core.specs.Shown.{Mirrors}
 use Rattle.kt_core.specs.Worlds.{World, can_make, step_refusal, is_full, lacks_label}
 use Rattle.kt_core.specs.declared.faults.StepFault.TheVariants.{NotEnabled, LogFull, LabelsSpent}

@@ -7,18 +7,18 @@ use Rattle.std.proofs.lemmas.List.Elements.{All-head, All-tail}
 use Rattle.std.specs.List.{AllZip}
 use Rattle.std.specs.declared.alloc.Global.{Global}
 use Rattle.std.specs.declared.dyn_box.DynBox.{DynBox}
-use Rattle.kt_held.specs.declared.held.Held.{Held}
+use Rattle.kt_object.specs.declared.held.Held.{Held}
 use Rattle.kt_object.specs.SavedStates.{SavedStates}
-use Rattle.kt_held.specs.Holdings.{Content, content, Holding, Holds, first_holding, applied}
-use Rattle.kt_held.specs.Holdings as held
-use Rattle.kt_held.specs.Fits.{spares_of, spares_of_all, is_up_after}
+use Rattle.kt_object.specs.Holdings.{Content, content, Holding, Holds, first_holding, applied}
+use Rattle.kt_object.specs.Holdings as held
+use Rattle.kt_object.specs.Fits.{spares_of, spares_of_all, is_up_after}
 use Rattle.kt_plan.specs.declared.steps.Act.{Act}
 use Rattle.kt_plan.specs.declared.steps.Act.TheVariants as answered
 use Rattle.kt_spacetime.specs.declared.event.Event.{Event}
 use Rattle.kt_system.specs.ShownActs.{act_shown, acts_shown}
-use Rattle.kt_values.specs.Done.{done}
-use Rattle.kt_values.specs.Values as values
-use Rattle.kt_values.specs.Values.{Rules, Due, due, first_due, acts_along}
+use Rattle.kt_machine.specs.Done.{done}
+use Rattle.kt_machine.specs.Values as values
+use Rattle.kt_machine.specs.Values.{Rules, Due, due, first_due, acts_along}
 use Rattle.kt_run.specs.Objects.{Belongings, belongings_of, has_of, rules_of, first_of, rules_by, holding_of, spares_taken, HoldsDue, HoldDue, IsDone}
 
 none_more : (n : ℕ) → n ≡ 0 + n

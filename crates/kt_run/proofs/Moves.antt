@@ -2,9 +2,9 @@
 use Rattle.std.specs.Prelude.{Option, unwrap_or, if◌then◌else◌}
 use Rattle.std.proofs.Common.{◌≡◌, Bool, true, false, Some, None, List, [], ◌∷◌, ◌++◌, refl, sym, ap, subst}
 use Rattle.kt_plan.specs.Limits.{Planned}
-use Rattle.kt_plans.specs.Progress.{Progress, progress_at_start}
-use Rattle.kt_plans.specs.Runs.{Move, GoesOn, after_moves}
-use Rattle.kt_plans.specs.Steps.{enabled, progress_after}
+use Rattle.kt_promises.specs.Progress.{Progress, progress_at_start}
+use Rattle.kt_promises.specs.Runs.{Move, GoesOn, after_moves}
+use Rattle.kt_promises.specs.Steps.{enabled, progress_after}
 
 -- the first one is enabled, and the others lead on
 pub first_move : (plan : Planned) (u w : Progress) (x : Move) (xs : List Move) → after_moves plan u (x ∷ xs) ≡ Some w → (enabled plan u x.step ≡ true) × (after_moves plan (progress_after plan u x.step x.give) xs ≡ Some w)

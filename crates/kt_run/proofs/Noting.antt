@@ -3,7 +3,7 @@ use Rattle.std.proofs.Common.{arith, ◌≡◌, ◌≢◌, ◌∙◌, ◌<◌, �
 use Rattle.std.specs.Prelude.{◌==◌, if◌then◌else◌}
 use Rattle.std.proofs.lemmas.Bool.{eqb-true, eqb-false}
 use Rattle.std.proofs.lemmas.List.{map-set, length-map, length-set, get_or-map, get_or-set_same, get_or-set_other}
-use Rattle.kt_plans.specs.Steps.{process_of_step}
+use Rattle.kt_promises.specs.Steps.{process_of_step}
 use Rattle.kt_plan.specs.declared.steps.Told.{Told}
 use Rattle.kt_run.specs.Telling.{IsNoted}
 

@@ -5,9 +5,9 @@ use Rattle.std.proofs.Math.Seq.{take-append_seam}
 use Rattle.kt_base.specs.declared.words.Cause.TheVariants.{Down}
 use Rattle.kt_spacetime.specs.declared.event.Event.{Event}
 use Rattle.kt_spacetime.specs.declared.event.Event.TheVariants.{Sent}
-use Rattle.kt_values.specs.Values.{Rules}
-use Rattle.kt_values.specs.Offers.{offer}
-use Rattle.kt_held.specs.Holdings.{Content}
+use Rattle.kt_machine.specs.Values.{Rules}
+use Rattle.kt_machine.specs.Offers.{offer}
+use Rattle.kt_object.specs.Holdings.{Content}
 use Rattle.kt_plan.specs.Limits.{Planned, IsPlan}
 use Rattle.kt_plan.specs.declared.commands.Command.{Command}
 use Rattle.kt_plan.specs.declared.commands.Job.{Job}
@@ -17,16 +17,15 @@ use Rattle.kt_plan.specs.declared.steps.Step.TheVariants.{Do, Take}
 use Rattle.kt_plan.specs.declared.steps.Give.{Give}
 use Rattle.kt_plan.specs.declared.steps.Look.{Look}
 use Rattle.kt_plan.specs.declared.steps.Look.TheVariants.{Idle, NeedsSave, NeedsBody, Plain}
-use Rattle.kt_plans.specs.Plans.{commands_of}
-use Rattle.kt_plans.specs.Looks.{uses_able, uses_body, look, look_of_job, look_of_command, look_of_step}
-use Rattle.kt_plans.specs.Runs.{Move, after_moves, RunReaches}
-use Rattle.kt_plans.specs.Progress.{Progress, progress_at_start}
-use Rattle.kt_plans.specs.Steps.{enabled, process_of_step, progress_after}
-use Rattle.kt_plans.specs.StepActs.{rows_added}
-use Rattle.kt_plans.specs.Rows.{AreRowsOfCommand, AreRowsOfDo, refusal_cause}
-use Rattle.kt_plans.specs.Told.{rows_along}
-use Rattle.kt_plans.specs.Follows.{command_answered}
-use Rattle.kt_plans.specs.Offers.{SendsWhatIsOffered}
+use Rattle.kt_meaning.specs.Follows.{commands_of, command_answered}
+use Rattle.kt_promises.specs.Looks.{uses_able, uses_body, look, look_of_job, look_of_command, look_of_step}
+use Rattle.kt_promises.specs.Runs.{Move, after_moves, RunReaches}
+use Rattle.kt_promises.specs.Progress.{Progress, progress_at_start}
+use Rattle.kt_promises.specs.Steps.{enabled, process_of_step, progress_after}
+use Rattle.kt_promises.specs.StepActs.{rows_added}
+use Rattle.kt_promises.specs.Rows.{AreRowsOfCommand, AreRowsOfDo, refusal_cause}
+use Rattle.kt_promises.specs.Told.{rows_along}
+use Rattle.kt_promises.specs.Offers.{SendsWhatIsOffered}
 use Rattle.kt_run.specs.Objects.{rules_by}
 use Rattle.kt_run.specs.OneRun.{SavesAll}
 use Rattle.kt_run.specs.RunLaws.{RunLaws}

@@ -5,11 +5,11 @@ use Rattle.std.proofs.lemmas.List.{length-take, length-map, length_push}
 use Rattle.std.proofs.lemmas.Option.{slice_get_within}
 use Rattle.kt_plan.specs.Limits.{Planned, IsPlan}
 use Rattle.kt_plan.specs.declared.steps.Step.{Step}
-use Rattle.kt_held.specs.Holdings.{Content}
-use Rattle.kt_plans.specs.Runs.{Move, GoesOn, after_moves}
-use Rattle.kt_plans.specs.Progress.{Progress, progress_at_start}
-use Rattle.kt_plans.specs.Steps.{enabled, process_of_step, progress_after}
-use Rattle.kt_plans.specs.Offers.{GivesOffers}
+use Rattle.kt_object.specs.Holdings.{Content}
+use Rattle.kt_promises.specs.Runs.{Move, GoesOn, after_moves}
+use Rattle.kt_promises.specs.Progress.{Progress, progress_at_start}
+use Rattle.kt_promises.specs.Steps.{enabled, process_of_step, progress_after}
+use Rattle.kt_promises.specs.Offers.{GivesOffers}
 use Rattle.kt_core.specs.Shown.{Mirrors}
 use Rattle.kt_core.specs.Worlds.{World, can_make, step_refusal}
 use Rattle.kt_core.specs.declared.faults.StepFault.{StepFault}

@@ -5,17 +5,17 @@ use Rattle.std.proofs.lemmas.List.{set-get_or}
 use Rattle.std.proofs.lemmas.Option.{slice_get_cases}
 use Rattle.std.specs.declared.alloc.Global.{Global}
 use Rattle.std.specs.declared.dyn_box.DynBox.{DynBox}
-use Rattle.kt_held.specs.Holdings.{Content}
-use Rattle.kt_held.specs.declared.held.Held.{Held}
+use Rattle.kt_object.specs.Holdings.{Content}
+use Rattle.kt_object.specs.declared.held.Held.{Held}
 use Rattle.kt_plan.specs.declared.steps.Act.TheVariants as act
 use Rattle.kt_plan.specs.declared.steps.Give.{Give}
 use Rattle.kt_plan.specs.declared.steps.Look.TheVariants as look
 use Rattle.kt_plan.specs.declared.steps.Step.{Step}
 use Rattle.kt_plan.specs.declared.steps.Step.TheVariants as steps
 use Rattle.std.proofs.lemmas.Bool.Decides.{nat_tests}
-use Rattle.kt_plans.specs.Looks.{look as needed}
-use Rattle.kt_plans.specs.Progress.{Progress}
-use Rattle.kt_plans.specs.Steps.{process_of_step}
+use Rattle.kt_promises.specs.Looks.{look as needed}
+use Rattle.kt_promises.specs.Progress.{Progress}
+use Rattle.kt_promises.specs.Steps.{process_of_step}
 use Rattle.kt_core.specs.Shown.{Mirrors}
 use Rattle.kt_core.specs.Worlds.{World, can_make}
 use Rattle.kt_run.specs.RunLaws.{RunLaws}

@@ -11,27 +11,27 @@ use Rattle.std.specs.declared.dyn_box.DynBox.{DynBox}
 use Rattle.kt_object.specs.Bytes.{IsSavedState}
 use Rattle.kt_core.specs.Shown.{Mirrors}
 use Rattle.kt_core.specs.Worlds.{World}
-use Rattle.kt_held.specs.Fits.{fits_all, spares_of}
-use Rattle.kt_held.specs.Holdings.{Content, content, Holding, Holds, AreSaved}
-use Rattle.kt_held.specs.Holdings as held
-use Rattle.kt_held.specs.Refusals.{held_objects, IsRejected}
-use Rattle.kt_held.specs.declared.faults.ActFault.{ActFault}
-use Rattle.kt_held.specs.declared.faults.ActFault.TheVariants as act
-use Rattle.kt_held.specs.declared.held.Held.{Held}
-use Rattle.kt_plans.specs.Steps.{process_of_step, enabled, progress_after}
+use Rattle.kt_object.specs.Fits.{fits_all, spares_of}
+use Rattle.kt_object.specs.Holdings.{Content, content, Holding, Holds, AreSaved}
+use Rattle.kt_object.specs.Holdings as held
+use Rattle.kt_object.specs.Refusals.{held_objects, IsRejected}
+use Rattle.kt_object.specs.declared.held_faults.ActFault.{ActFault}
+use Rattle.kt_object.specs.declared.held_faults.ActFault.TheVariants as act
+use Rattle.kt_object.specs.declared.held.Held.{Held}
+use Rattle.kt_promises.specs.Steps.{process_of_step, enabled, progress_after}
 use Rattle.kt_plan.specs.Limits.{Planned}
 use Rattle.kt_plan.specs.declared.steps.Act.{Act}
 use Rattle.kt_plan.specs.declared.steps.Act.TheVariants as answered
 use Rattle.kt_plan.specs.declared.steps.Give.{Give}
 use Rattle.kt_plan.specs.declared.steps.Step.{Step}
 use Rattle.kt_plan.specs.declared.steps.Told.{Told}
-use Rattle.kt_plans.specs.Runs.{RunReaches}
-use Rattle.kt_plans.specs.StepActs.{keeps_only_first, acts_of_step}
-use Rattle.kt_plans.specs.Progress.{Progress}
+use Rattle.kt_promises.specs.Runs.{RunReaches}
+use Rattle.kt_promises.specs.StepActs.{keeps_only_first, acts_of_step}
+use Rattle.kt_promises.specs.Progress.{Progress}
 use Rattle.kt_system.specs.ShownActs.{acts_shown}
-use Rattle.kt_values.specs.Done.{done}
-use Rattle.kt_values.specs.Values as values
-use Rattle.kt_values.specs.Values.{Rules, Due, due, can_all}
+use Rattle.kt_machine.specs.Done.{done}
+use Rattle.kt_machine.specs.Values as values
+use Rattle.kt_machine.specs.Values.{Rules, Due, due, can_all}
 use Rattle.kt_run.specs.Faults.{of_act, IsCast}
 use Rattle.kt_run.specs.Objects.{belongings_of, has_of, rules_of, first_of, holding_of, spares_taken, HoldsDue, HoldDue}
 use Rattle.kt_run.specs.Rejections.{MayReject, objects_held, RejectNoMore, HaveSpares}

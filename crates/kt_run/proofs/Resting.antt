@@ -3,11 +3,11 @@ use Rattle.std.specs.Prelude.{Option, option_map, slice_get, slice_index_or}
 use Rattle.std.proofs.Common.{◌≡◌, ℕ, Some, None, List, [], length, refl, sym, ap, subst, ◌∙◌}
 use Rattle.kt_plan.specs.Limits.{Planned, IsPlan}
 use Rattle.kt_plan.specs.declared.steps.Step.{Step}
-use Rattle.kt_held.specs.Holdings.{Content, content, AreSaved}
+use Rattle.kt_object.specs.Holdings.{Content, content, AreSaved}
 use Rattle.kt_spacetime.specs.declared.event.Event.{Event}
-use Rattle.kt_plans.specs.Runs.{Move, RunReaches}
-use Rattle.kt_plans.specs.Follows.{FollowsPlan}
-use Rattle.kt_plans.specs.Offers.{SendsWhatIsOffered}
+use Rattle.kt_promises.specs.Runs.{Move, RunReaches}
+use Rattle.kt_meaning.specs.Follows.{FollowsPlan}
+use Rattle.kt_promises.specs.Offers.{SendsWhatIsOffered}
 use Rattle.kt_core.specs.Worlds.{World}
 use Rattle.kt_run.specs.Objects.{Belongings, first_of, rules_of, rules_by, HoldDue}
 use Rattle.kt_run.specs.RunLaws.{RunLaws}

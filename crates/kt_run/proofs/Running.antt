@@ -8,15 +8,15 @@ use Rattle.kt_plan.specs.declared.steps.Step.{Step}
 use Rattle.kt_plan.specs.declared.steps.Give.{Give}
 use Rattle.kt_plan.specs.declared.steps.Told.{Told}
 use Rattle.kt_plan.specs.declared.steps.Act.{Act}
-use Rattle.kt_held.specs.Holdings.{Content}
-use Rattle.kt_values.specs.Values.{Rules}
+use Rattle.kt_object.specs.Holdings.{Content}
+use Rattle.kt_machine.specs.Values.{Rules}
 use Rattle.kt_spacetime.specs.declared.event.Event.{Event}
-use Rattle.kt_plans.specs.Runs.{Move, after_moves}
-use Rattle.kt_plans.specs.Progress.{Progress, progress_at_start}
-use Rattle.kt_plans.specs.Steps.{enabled, progress_after, process_of_step}
-use Rattle.kt_plans.specs.StepActs.{acts_of_step}
-use Rattle.kt_plans.specs.Told.{told_at}
-use Rattle.kt_plans.specs.Offers.{GivesOffer, GivesOffers}
+use Rattle.kt_promises.specs.Runs.{Move, after_moves}
+use Rattle.kt_promises.specs.Progress.{Progress, progress_at_start}
+use Rattle.kt_promises.specs.Steps.{enabled, progress_after, process_of_step}
+use Rattle.kt_promises.specs.StepActs.{acts_of_step}
+use Rattle.kt_promises.specs.Told.{told_at}
+use Rattle.kt_promises.specs.Offers.{GivesOffer, GivesOffers}
 use Rattle.kt_system.specs.ShownActs.{acts_shown}
 use Rattle.kt_system.specs.Systems.{LogGrows}
 use Rattle.kt_core.specs.Worlds.{World, step_refusal, is_full, numbered_row, can_make}

@@ -7,14 +7,14 @@ use Rattle.std.proofs.lemmas.Option.{slice_get-get_or}
 use Rattle.std.proofs.Math.Seq.{drop-append_seam}
 use Rattle.kt_core.specs.Shown.{Mirrors}
 use Rattle.kt_core.specs.Worlds.{World, numbered_row}
-use Rattle.kt_plans.specs.Steps.{process_of_step, enabled, progress_after}
+use Rattle.kt_promises.specs.Steps.{process_of_step, enabled, progress_after}
 use Rattle.kt_plan.specs.Limits.{Planned, IsPlan}
 use Rattle.kt_plan.specs.declared.steps.Give.{Give}
 use Rattle.kt_plan.specs.declared.steps.Told.{Told}
-use Rattle.kt_plans.specs.Runs.{Move, RunReaches, after_moves}
-use Rattle.kt_plans.specs.StepActs.{rows_added, acts_of_step}
-use Rattle.kt_plans.specs.Told.{StepTold, told_at, told_by, told_by_move}
-use Rattle.kt_plans.specs.Progress.{Progress, progress_at_start}
+use Rattle.kt_promises.specs.Runs.{Move, RunReaches, after_moves}
+use Rattle.kt_promises.specs.StepActs.{rows_added, acts_of_step}
+use Rattle.kt_promises.specs.Told.{StepTold, told_at, told_by, told_by_move}
+use Rattle.kt_promises.specs.Progress.{Progress, progress_at_start}
 use Rattle.kt_spacetime.specs.Events.{process_of}
 use Rattle.kt_spacetime.specs.declared.event.Event.{Event}
 use Rattle.kt_system.specs.ShownActs.{acts_shown}

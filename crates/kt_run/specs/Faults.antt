@@ -1,12 +1,12 @@
 -- Which objects a run begins with, and which faults of it come before anything is saved.
 use Rattle.std.specs.Prelude.{◌<◌, ℕ, List, Bool, true, false, Option, Some, None, length}
-use Rattle.kt_held.specs.Casts.{HasSizes, HasKind}
+use Rattle.kt_object.specs.Casts.{HasSizes, HasKind}
 use Rattle.kt_core.specs.declared.faults.StepFault.{StepFault}
 use Rattle.kt_core.specs.declared.faults.StepFault.TheVariants as step
-use Rattle.kt_held.specs.declared.faults.ActFault.{ActFault}
-use Rattle.kt_held.specs.declared.faults.ActFault.TheVariants as act
-use Rattle.kt_held.specs.declared.faults.CastFault.{CastFault}
-use Rattle.kt_held.specs.declared.faults.CastFault.TheVariants as cast
+use Rattle.kt_object.specs.declared.held_faults.ActFault.{ActFault}
+use Rattle.kt_object.specs.declared.held_faults.ActFault.TheVariants as act
+use Rattle.kt_object.specs.declared.held_faults.CastFault.{CastFault}
+use Rattle.kt_object.specs.declared.held_faults.CastFault.TheVariants as cast
 use Rattle.kt_plan.specs.Limits.{Planned}
 use Rattle.kt_run.specs.declared.faults.RunFault.{RunFault}
 use Rattle.kt_run.specs.declared.faults.RunFault.TheVariants.{CastSize, CastKind, Object, Journal, Step, Memory}

@@ -1,10 +1,10 @@
 -- Runs by given steps that end at one which is not enabled.
 use Rattle.std.specs.Prelude.{◌≡◌, ℕ, Option, Some, List}
-use Rattle.kt_held.specs.Holdings.{Content}
+use Rattle.kt_object.specs.Holdings.{Content}
 use Rattle.kt_plan.specs.Limits.{Planned}
 use Rattle.kt_plan.specs.declared.steps.Step.{Step}
-use Rattle.kt_plans.specs.Hindrances.{hindrance}
-use Rattle.kt_plans.specs.declared.hindrances.Hindrance.{Hindrance}
+use Rattle.kt_promises.specs.Hindrances.{hindrance}
+use Rattle.kt_promises.specs.declared.hindrances.Hindrance.{Hindrance}
 use Rattle.kt_core.specs.Worlds.{World}
 use Rattle.kt_core.specs.declared.faults.StepFault.TheVariants.{NotEnabled}
 use Rattle.kt_run.specs.declared.faults.RunFault.{RunFault}

@@ -4,14 +4,14 @@ use Rattle.std.specs.declared.alloc.Global.{Global}
 use Rattle.std.specs.declared.dyn_box.DynBox.{DynBox}
 use Rattle.kt_object.specs.SavedStates.{SavedStates}
 use Rattle.kt_object.specs.Value.{after, offered}
-use Rattle.kt_held.specs.Fits.{spares_of_all}
-use Rattle.kt_held.specs.Holdings.{Content, content, Holding, Holds, does_all}
-use Rattle.kt_held.specs.declared.held.Held.{Held}
+use Rattle.kt_object.specs.Fits.{spares_of_all}
+use Rattle.kt_object.specs.Holdings.{Content, content, Holding, Holds, does_all}
+use Rattle.kt_object.specs.declared.held.Held.{Held}
 use Rattle.kt_plan.specs.declared.steps.Act.{Act}
 use Rattle.kt_spacetime.specs.declared.event.Event.{Event}
-use Rattle.kt_values.specs.Done.{done, done_start}
-use Rattle.kt_values.specs.Values as values
-use Rattle.kt_values.specs.Values.{Rules, Due, due, first_due, acts_along}
+use Rattle.kt_machine.specs.Done.{done, done_start}
+use Rattle.kt_machine.specs.Values as values
+use Rattle.kt_machine.specs.Values.{Rules, Due, due, first_due, acts_along}
 
 -- what a process has: the contents of its object, where it is up, and of its spares, and its saved states
 pub record Belongings : Type 0 where

@@ -2,10 +2,10 @@
 use Rattle.std.specs.Prelude.{◌≡◌, true, List, [], ◌∷◌}
 use Rattle.kt_plan.specs.Limits.{Planned}
 use Rattle.kt_plan.specs.declared.steps.Look.TheVariants.{NeedsSave}
-use Rattle.kt_plans.specs.Looks.{look}
-use Rattle.kt_plans.specs.Progress.{Progress}
-use Rattle.kt_plans.specs.Runs.{Move}
-use Rattle.kt_plans.specs.Steps.{progress_after}
+use Rattle.kt_promises.specs.Looks.{look}
+use Rattle.kt_promises.specs.Progress.{Progress}
+use Rattle.kt_promises.specs.Runs.{Move}
+use Rattle.kt_promises.specs.Steps.{progress_after}
 
 -- at each of these moves that asks whether the object can be saved, it can
 abbrev pub SavesAll : Planned → Progress → List Move → Type 0

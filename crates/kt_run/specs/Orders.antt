@@ -4,13 +4,13 @@ use Rattle.std.specs.List.{range_with_len}
 use Rattle.rand_xoshiro.specs.Xoshiro256.{of_seed, plus_plus}
 use Rattle.rand_xoshiro.specs.SplitMix64.{splitmix_seed}
 use Rattle.kt_spacetime.specs.declared.event.Event.{Event}
-use Rattle.kt_held.specs.Holdings.{Content}
+use Rattle.kt_object.specs.Holdings.{Content}
 use Rattle.kt_plan.specs.Limits.{Planned}
 use Rattle.kt_plan.specs.declared.steps.Step.{Step}
-use Rattle.kt_plans.specs.Runs.{Move, after_moves}
-use Rattle.kt_plans.specs.Progress.{Progress, progress_at_start}
-use Rattle.kt_plans.specs.Steps.{is_at_rest, process_of_step, progress_after}
-use Rattle.kt_plans.specs.Defaults.{default_step}
+use Rattle.kt_promises.specs.Runs.{Move, after_moves}
+use Rattle.kt_promises.specs.Progress.{Progress, progress_at_start}
+use Rattle.kt_promises.specs.Steps.{is_at_rest, process_of_step, progress_after}
+use Rattle.kt_promises.specs.Defaults.{default_step}
 use Rattle.kt_core.specs.Choices.{enabled_steps}
 use Rattle.kt_core.specs.Worlds.{World, step_refusal}
 use Rattle.kt_core.specs.declared.faults.StepFault.{StepFault}

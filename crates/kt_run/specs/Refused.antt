@@ -1,10 +1,10 @@
 -- Runs of a plan that end at a step: it is refused, or what it asks of a process can't be done.
 use Rattle.std.specs.Prelude.{◌≡◌, ◌+◌, ◌⊎◌, ℕ, Some, None, List, length, take, slice_get}
-use Rattle.kt_held.specs.Holdings.{Content}
+use Rattle.kt_object.specs.Holdings.{Content}
 use Rattle.kt_plan.specs.Limits.{Planned}
 use Rattle.kt_plan.specs.declared.steps.Step.{Step}
-use Rattle.kt_plans.specs.Steps.{process_of_step}
-use Rattle.kt_plans.specs.Defaults.{default_step}
+use Rattle.kt_promises.specs.Steps.{process_of_step}
+use Rattle.kt_promises.specs.Defaults.{default_step}
 use Rattle.kt_core.specs.Worlds.{World, step_refusal}
 use Rattle.kt_core.specs.declared.faults.StepFault.{StepFault}
 use Rattle.kt_run.specs.Runs.{ToldAndHeld, BeginsRun, Goes}

@@ -5,9 +5,9 @@ use Rattle.std.specs.declared.alloc.Global.{Global}
 use Rattle.std.specs.declared.dyn_box.DynBox.{DynBox}
 use Rattle.kt_object.specs.Bytes.{IsSavedState}
 use Rattle.kt_plan.specs.Failures.{failures_of}
-use Rattle.kt_held.specs.Holdings.{Content}
-use Rattle.kt_held.specs.Refusals.{held_objects}
-use Rattle.kt_held.specs.declared.held.Held.{Held}
+use Rattle.kt_object.specs.Holdings.{Content}
+use Rattle.kt_object.specs.Refusals.{held_objects}
+use Rattle.kt_object.specs.declared.held.Held.{Held}
 use Rattle.kt_plan.specs.Limits.{Planned}
 
 -- one of these objects may reject a saved state of this kind

@@ -1,4 +1,4 @@
--- The laws of runs of kt_plans that proofs rest on.
+-- The laws of runs of kt_promises that proofs rest on.
 use Rattle.std.specs.Prelude.{◌≡◌, ◌≢◌, ◌≤◌, ◌<◌, ◌+◌, ◌&&◌, ℕ, ℤ, true, false, Some, None, is_some, List, [], ◌∷◌, ◌++◌, length, slice_get}
 use Rattle.kt_plan.specs.Failures.{failures_of}
 use Rattle.kt_plan.specs.Limits.{Planned, IsPlan}
@@ -7,24 +7,24 @@ use Rattle.kt_plan.specs.declared.steps.Give.{Give}
 use Rattle.kt_plan.specs.declared.steps.Look.TheVariants.{NeedsBody}
 use Rattle.kt_plan.specs.declared.steps.Step.{Step}
 use Rattle.kt_plan.specs.declared.steps.Step.TheVariants.{Do}
-use Rattle.kt_plans.specs.Defaults.{default_step}
-use Rattle.kt_plans.specs.Follows.{FollowsPlan, command_rows}
-use Rattle.kt_plans.specs.Looks.{uses_able, uses_body, look}
-use Rattle.kt_plans.specs.Offers.{GivesOffers, SendsWhatIsOffered}
-use Rattle.kt_plans.specs.Progress.{Progress, progress_at_start, next_command}
-use Rattle.kt_plans.specs.Rows.{AreRowsOfStep, has_sent_row, is_offer_step}
-use Rattle.kt_plans.specs.Runs.{Move, GoesOn, RunReaches, after_moves}
-use Rattle.kt_plans.specs.StepActs.{acts_of_step, keeps_only_first, rows_added}
-use Rattle.kt_plans.specs.Steps.{enabled, is_at_rest, process_of_step, progress_after}
-use Rattle.kt_plans.specs.Told.{told_by, told_by_move}
+use Rattle.kt_promises.specs.Defaults.{default_step}
+use Rattle.kt_meaning.specs.Follows.{FollowsPlan, command_rows}
+use Rattle.kt_promises.specs.Looks.{uses_able, uses_body, look}
+use Rattle.kt_promises.specs.Offers.{GivesOffers, SendsWhatIsOffered}
+use Rattle.kt_promises.specs.Progress.{Progress, progress_at_start, next_command}
+use Rattle.kt_promises.specs.Rows.{AreRowsOfStep, has_sent_row, is_offer_step}
+use Rattle.kt_promises.specs.Runs.{Move, GoesOn, RunReaches, after_moves}
+use Rattle.kt_promises.specs.StepActs.{acts_of_step, keeps_only_first, rows_added}
+use Rattle.kt_promises.specs.Steps.{enabled, is_at_rest, process_of_step, progress_after}
+use Rattle.kt_promises.specs.Told.{told_by, told_by_move}
 use Rattle.kt_run.specs.Objects.{spares_taken}
 use Rattle.kt_spacetime.specs.Events.{process_of}
 use Rattle.kt_spacetime.specs.declared.event.Event.{Event}
-use Rattle.kt_values.specs.Done.{done}
-use Rattle.kt_values.specs.Values as values
-use Rattle.kt_values.specs.Values.{Rules, due}
+use Rattle.kt_machine.specs.Done.{done}
+use Rattle.kt_machine.specs.Values as values
+use Rattle.kt_machine.specs.Values.{Rules, due}
 
--- what kt_plans says of every run, by its laws
+-- what kt_promises says of every run, by its laws
 pub record RunLaws : Type 0 where
   -- progress_of_runs
   pub next : (plan : Planned) (first : ℕ) (w : Progress) (x : Step) (give : Give) → IsPlan plan → RunReaches plan first w

@@ -3,18 +3,18 @@ use Rattle.std.specs.Prelude.{◌≡◌, ◌<◌, ◌≤◌, ◌+◌, ◌^◌, [
 use Rattle.std.specs.declared.alloc.Global.{Global}
 use Rattle.std.specs.declared.dyn_box.DynBox.{DynBox}
 use Rattle.kt_spacetime.specs.declared.event.Event.{Event}
-use Rattle.kt_held.specs.Holdings.{Content}
-use Rattle.kt_held.specs.declared.held.Held.{Held}
+use Rattle.kt_object.specs.Holdings.{Content}
+use Rattle.kt_object.specs.declared.held.Held.{Held}
 use Rattle.kt_plan.specs.Limits.{Planned}
 use Rattle.kt_plan.specs.declared.steps.Step.{Step}
 use Rattle.kt_plan.specs.declared.steps.Give.{Give}
 use Rattle.kt_plan.specs.declared.steps.Act.{Act}
 use Rattle.kt_plan.specs.declared.steps.Told.{Told}
-use Rattle.kt_plans.specs.Runs.{Move, AreDefaultMoves, GoesOn, after_moves}
-use Rattle.kt_plans.specs.Progress.{Progress, progress_at_start}
-use Rattle.kt_plans.specs.Steps.{enabled, progress_after, is_at_rest}
-use Rattle.kt_plans.specs.Offers.{GivesOffer, GivesOffers, SendsWhatIsOffered}
-use Rattle.kt_plans.specs.Told.{told_at}
+use Rattle.kt_promises.specs.Runs.{Move, AreDefaultMoves, GoesOn, after_moves}
+use Rattle.kt_promises.specs.Progress.{Progress, progress_at_start}
+use Rattle.kt_promises.specs.Steps.{enabled, progress_after, is_at_rest}
+use Rattle.kt_promises.specs.Offers.{GivesOffer, GivesOffers, SendsWhatIsOffered}
+use Rattle.kt_promises.specs.Told.{told_at}
 use Rattle.kt_core.specs.Making.{MakesStep}
 use Rattle.kt_core.specs.Worlds.{World, numbered_row}
 use Rattle.kt_core.specs.Shown.{Mirrors}

@@ -1,12 +1,12 @@
 -- What a run tells its processes.
 use Rattle.std.specs.Prelude.{◌≡◌, ◌<◌, ◌+◌, ◌==◌, ℕ, List, [], ◌∷◌, ◌++◌, All, Option, filter, map, length, slice_index_or, if◌then◌else◌}
 use Rattle.std.specs.List.{AllZip, filter_map}
-use Rattle.kt_plans.specs.Steps.{process_of_step}
-use Rattle.kt_plans.specs.Runs.{Move}
+use Rattle.kt_promises.specs.Steps.{process_of_step}
+use Rattle.kt_promises.specs.Runs.{Move}
 use Rattle.kt_plan.specs.Limits.{Planned}
 use Rattle.kt_plan.specs.declared.steps.Told.{Told}
-use Rattle.kt_plans.specs.Told.{StepTold, told_by}
-use Rattle.kt_plans.specs.Progress.{progress_at_start}
+use Rattle.kt_promises.specs.Told.{StepTold, told_by}
+use Rattle.kt_promises.specs.Progress.{progress_at_start}
 use Rattle.kt_spacetime.specs.Events.{process_of}
 use Rattle.kt_spacetime.specs.declared.event.Event.{Event}
 use Rattle.kt_system.specs.ShownActs.{acts_shown}

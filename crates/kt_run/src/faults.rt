@@ -8,7 +8,7 @@ ghost use Rattle.kt_run.specs.Faults.{of_act, of_cast, of_step};
 
 use kt_base::{Memory, ProcNo};
 use kt_core::StepFault;
-use kt_held::{ActFault, CastFault};
+use kt_object::{ActFault, CastFault};
 use std::fmt;
 
 /// Why a run came to no end. Its text is the program's fault line, without the program's name.

@@ -1,7 +1,7 @@
 //! What the processes of a run were told.
 
 ghost use Rattle.std.specs.Prelude.{◌≡◌, ◌<◌, [], true, false, length, map, IfOk, OnOk};
-ghost use Rattle.kt_plans.specs.Steps.{process_of_step};
+ghost use Rattle.kt_promises.specs.Steps.{process_of_step};
 ghost use Rattle.kt_run.specs.Telling.{AreEmpty, IsNoted};
 
 use kt_base::{Memory, ProcNo};

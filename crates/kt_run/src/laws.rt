@@ -5,7 +5,7 @@ ghost use Rattle.kt_core.specs.Choices.{enabled_steps};
 ghost use Rattle.kt_core.specs.Making.{MakesStep};
 ghost use Rattle.kt_core.specs.Shown.{Mirrors};
 ghost use Rattle.kt_core.specs.Worlds.{World};
-ghost use Rattle.kt_held.specs.Holdings.{Content};
+ghost use Rattle.kt_object.specs.Holdings.{Content};
 ghost use Rattle.kt_object.specs.Value.{offered};
 ghost use Rattle.kt_plan.specs.Limits.{IsPlan, Planned};
 ghost use Rattle.kt_plan.specs.declared.steps.Act.{Act};
@@ -13,12 +13,12 @@ ghost use Rattle.kt_plan.specs.declared.steps.Give.{Give};
 ghost use Rattle.kt_plan.specs.declared.steps.Look.TheVariants.{NeedsBody};
 ghost use Rattle.kt_plan.specs.declared.steps.Step.{Step as steps};
 ghost use Rattle.kt_plan.specs.declared.steps.Told.{Told};
-ghost use Rattle.kt_plans.specs.Looks.{look};
-ghost use Rattle.kt_plans.specs.Offers.{GivesOffer, SendsWhatIsOffered};
-ghost use Rattle.kt_plans.specs.Progress.{Progress, progress_at_start};
-ghost use Rattle.kt_plans.specs.Runs.{Move, after_moves};
-ghost use Rattle.kt_plans.specs.Steps.{enabled, process_of_step, progress_after};
-ghost use Rattle.kt_plans.specs.Told.{told_at};
+ghost use Rattle.kt_promises.specs.Looks.{look};
+ghost use Rattle.kt_promises.specs.Offers.{GivesOffer, SendsWhatIsOffered};
+ghost use Rattle.kt_promises.specs.Progress.{Progress, progress_at_start};
+ghost use Rattle.kt_promises.specs.Runs.{Move, after_moves};
+ghost use Rattle.kt_promises.specs.Steps.{enabled, process_of_step, progress_after};
+ghost use Rattle.kt_promises.specs.Told.{told_at};
 ghost use Rattle.kt_run.specs.Objects.{Belongings, rules_of, rules_by, first_of, HoldsDue, IsDone};
 ghost use Rattle.kt_run.specs.OneRun.{SavesAll};
 ghost use Rattle.kt_run.specs.Orders.{even_part, words_with};
@@ -92,15 +92,15 @@ pub fn even_draws()
 pub(crate) fn laws_of_runs()
     ensures { RunLaws }
 {
-    kt_plans::progress_of_runs();
-    kt_plans::never_stuck();
-    kt_plans::logs_follow_plans();
-    kt_plans::phases_of_runs();
-    kt_plans::rows_of_runs();
-    kt_plans::steps_of_runs();
-    kt_plans::acts_of_runs();
-    kt_plans::told_of_runs();
-    kt_plans::runs_that_go_on();
+    kt_promises::progress_of_runs();
+    kt_promises::never_stuck();
+    kt_promises::logs_follow_plans();
+    kt_promises::phases_of_runs();
+    kt_promises::rows_of_runs();
+    kt_promises::steps_of_runs();
+    kt_promises::acts_of_runs();
+    kt_promises::told_of_runs();
+    kt_promises::runs_that_go_on();
     // what an object holds is a list of numbers, and so is an array to a clause
-    kt_plans::values_of_runs::<[i64; 1]>();
+    kt_promises::values_of_runs::<[i64; 1]>();
 }

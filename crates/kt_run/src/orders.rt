@@ -3,7 +3,7 @@
 ghost use Rattle.std.specs.Prelude.{◌≡◌, ◌<◌, ℕ, Some, true, false, IfSome, IfNone};
 ghost use Rattle.kt_core.specs.Shown.{Mirrors};
 ghost use Rattle.kt_core.specs.Worlds.{can_make};
-ghost use Rattle.kt_plans.specs.Progress.{Progress};
+ghost use Rattle.kt_promises.specs.Progress.{Progress};
 ghost use Rattle.kt_run.specs.Orders.{draw_below, generator_next, generator_of, step_in_order};
 
 use kt_core::World;

@@ -2,10 +2,10 @@
 
 ghost use Rattle.std.specs.Prelude.{◌≡◌, ◌≢◌, ◌⊎◌, ◌++◌, ◌∷◌, [], ℕ, map, slice_index, slice_index_or, OnOk, IfOk, IfErr};
 ghost use Rattle.kt_core.specs.declared.faults.StepFault.{StepFault};
-ghost use Rattle.kt_held.specs.Holdings.{content};
-ghost use Rattle.kt_held.specs.Refusals.{IsLeastRefused};
-ghost use Rattle.kt_plans.specs.Follows.{FollowsPlan};
-ghost use Rattle.kt_plans.specs.Headline.{IsCertified, IsPromised};
+ghost use Rattle.kt_object.specs.Holdings.{content};
+ghost use Rattle.kt_object.specs.Refusals.{IsLeastRefused};
+ghost use Rattle.kt_meaning.specs.Follows.{FollowsPlan};
+ghost use Rattle.kt_meaning.specs.Promised.{IsCertified, IsPromised};
 ghost use Rattle.kt_run.specs.Faults.{IsCast, Answers};
 ghost use Rattle.kt_run.specs.Hindered.{TellsHindrance, TellsNoOther};
 ghost use Rattle.kt_run.specs.Orders.{kept_steps, IsOneOrderedRun, IsOneRefused, IsOneStopped};
@@ -18,10 +18,9 @@ use crate::laws::laws_of_runs;
 use crate::orders::Order;
 use crate::run_state::RunState;
 use kt_base::Memory;
-use kt_held::Cast;
-use kt_object::Recoverable;
+use kt_object::{Cast, Recoverable};
 use kt_plan::{Plan, Step};
-use kt_plans::Hindrance;
+use kt_promises::Hindrance;
 use kt_spacetime::SpaceTime;
 use std::alloc::Global;
 

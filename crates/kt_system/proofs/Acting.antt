@@ -6,20 +6,20 @@ use Rattle.kt_base.specs.declared.words.Kind.TheVariants.{Checkpoint, Rollback}
 use Rattle.kt_tables.specs.Peers.{count_peers}
 use Rattle.kt_protocol.specs.Replies.{unable_cause}
 use Rattle.kt_protocol.specs.States.{Begin}
-use Rattle.kt_parts.specs.Answers.{replies, joins}
-use Rattle.kt_parts.specs.Rules.{way_alone}
-use Rattle.kt_parts.specs.declared.actions.Action.{Action}
-use Rattle.kt_parts.specs.declared.actions.Action.TheVariants.{Nothing, Refuse, Join, Reply, Settle}
-use Rattle.kt_parts.specs.declared.actions.Then.{Then}
-use Rattle.kt_parts.specs.declared.actions.Then.TheVariants.{Wait}
+use Rattle.kt_process.specs.Answers.{replies, joins}
+use Rattle.kt_process.specs.PartRules.{way_alone}
+use Rattle.kt_process.specs.declared.actions.Action.{Action}
+use Rattle.kt_process.specs.declared.actions.Action.TheVariants.{Nothing, Refuse, Join, Reply, Settle}
+use Rattle.kt_process.specs.declared.actions.Then.{Then}
+use Rattle.kt_process.specs.declared.actions.Then.TheVariants.{Wait}
 use Rattle.kt_process.specs.ProcessStates.{ProcessState, is_ready}
 use Rattle.kt_process.specs.declared.side.Side.{Side}
 use Rattle.kt_process.specs.declared.side.Side.TheVariants as side
 use Rattle.kt_process.specs.Shown.{IsSeenAs, BeginsAs, HearsAs, part_shown}
-use Rattle.kt_seen.specs.Seen.{SeenPart, SeenProcess, Seen}
-use Rattle.kt_seen.specs.CallTests.{must_take, is_asked_in_checkpoint, is_asked_in_rollback}
-use Rattle.kt_values.specs.Values.{Act, Keep, closing}
-use Rattle.kt_values.specs.SeenActs.{seen_acts, seen_acts_asked}
+use Rattle.kt_machine.specs.Seen.{SeenPart, SeenProcess, Seen}
+use Rattle.kt_machine.specs.CallTests.{must_take, is_asked_in_checkpoint, is_asked_in_rollback}
+use Rattle.kt_machine.specs.Values.{Act, Keep, closing}
+use Rattle.kt_machine.specs.SeenActs.{seen_acts, seen_acts_asked}
 use Rattle.kt_system.specs.ShownActs.{acts_going_on, acts_carried_out}
 
 -- who is ready is in a rollback, by its part

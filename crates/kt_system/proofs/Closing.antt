@@ -3,15 +3,15 @@ use Rattle.std.specs.Prelude.{Option, Some, None, ◌==◌, if◌then◌else◌}
 use Rattle.std.proofs.Common.{◌≡◌, ◌≤◌, ℕ, Bool, true, false, refl, ap, sym}
 use Rattle.kt_fifo.specs.Channels.{ChannelLists, channel}
 use Rattle.kt_spacetime.specs.declared.event.Event.TheVariants.{Closed}
-use Rattle.kt_parts.specs.Rules.{way_alone}
-use Rattle.kt_parts.specs.declared.actions.Then.TheVariants.{Wait, Answer, Commit}
-use Rattle.kt_seen.specs.Seen.{SeenPart, SeenProcess, SeenLists, Seen}
-use Rattle.kt_seen.specs.ListChanges.{with_decisions, trims}
-use Rattle.kt_seen.specs.SeenReplies.{seen_answering}
-use Rattle.kt_seen.specs.SeenClosing.{seen_deciding, seen_closing, seen_settling, seen_ending}
-use Rattle.kt_seen.specs.InOnePiece.{held_after_rollback, kept_after_rollback}
-use Rattle.kt_lists.specs.Kept.{put_back, emptied}
-use Rattle.kt_lists.proofs.Ranges.{back_all, gone_all}
+use Rattle.kt_process.specs.PartRules.{way_alone}
+use Rattle.kt_process.specs.declared.actions.Then.TheVariants.{Wait, Answer, Commit}
+use Rattle.kt_machine.specs.Seen.{SeenPart, SeenProcess, SeenLists, Seen}
+use Rattle.kt_machine.specs.ListChanges.{with_decisions, trims}
+use Rattle.kt_machine.specs.SeenReplies.{seen_answering}
+use Rattle.kt_machine.specs.SeenClosing.{seen_deciding, seen_closing, seen_settling, seen_ending}
+use Rattle.kt_machine.specs.InOnePiece.{held_after_rollback, kept_after_rollback}
+use Rattle.kt_system.specs.Kept.{put_back, emptied}
+use Rattle.kt_system.proofs.Ranges.{back_all, gone_all}
 use Rattle.kt_process.specs.ProcessStates.{ProcessState, asked_of, inst_of, is_ready, is_saving}
 use Rattle.kt_process.specs.Turns.{noted_by, marks_of}
 use Rattle.kt_process.specs.declared.side.Side.{Side}

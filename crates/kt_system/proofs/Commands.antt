@@ -6,26 +6,26 @@ use Rattle.kt_base.specs.declared.words.Cause.TheVariants.{Busy}
 use Rattle.kt_base.specs.declared.words.Kind.{Kind}
 use Rattle.kt_base.specs.declared.words.Kind.TheVariants.{Checkpoint, Rollback}
 use Rattle.kt_base.specs.declared.words.Verb.TheVariants as verb
-use Rattle.kt_cuts.specs.Past.{at_one}
+use Rattle.kt_meaning.specs.Past.{at_one}
 use Rattle.kt_fifo.specs.declared.parcels.Parcel.{Parcel}
 use Rattle.kt_protocol.specs.Replies.{unable_cause}
 use Rattle.kt_protocol.specs.States.{Begin}
-use Rattle.kt_parts.specs.Answers.{replies, joins}
-use Rattle.kt_parts.specs.declared.actions.Action.{Action}
-use Rattle.kt_parts.specs.declared.actions.Action.TheVariants.{Nothing, Refuse, Join, Reply, Settle}
-use Rattle.kt_parts.specs.declared.actions.Then.{Then}
+use Rattle.kt_process.specs.Answers.{replies, joins}
+use Rattle.kt_process.specs.declared.actions.Action.{Action}
+use Rattle.kt_process.specs.declared.actions.Action.TheVariants.{Nothing, Refuse, Join, Reply, Settle}
+use Rattle.kt_process.specs.declared.actions.Then.{Then}
 use Rattle.kt_fifo.specs.declared.parcels.Parcel.TheVariants as parcel
 use Rattle.kt_process.specs.ProcessStates.{ProcessState, inst_of, inst_of_part}
 use Rattle.kt_process.specs.Turns.{HasJoined, IsBegin, IsHeard, joins_by}
 use Rattle.kt_process.specs.Shown.{IsSeenAs, BeginsAs, HearsAs, joined_as, asked_by, label_by, noted_as, goes_on}
-use Rattle.kt_seen.specs.Seen.{SeenProcess, Seen}
-use Rattle.kt_seen.specs.CallTests.{must_take, must_roll}
-use Rattle.kt_seen.specs.ListChanges.{with_rest, with_parcel}
-use Rattle.kt_seen.specs.SeenJoining.{no_note, part_after_ask, seen_member_ask, seen_joining_checkpoint, seen_joining_rollback}
-use Rattle.kt_seen.specs.SeenReplies.{seen_replying, seen_unwilling}
-use Rattle.kt_seen.specs.SeenClosing.{seen_settling}
-use Rattle.kt_seen.specs.SeenMessages.{seen_refusal}
-use Rattle.kt_seen.specs.Transition.{transition, seen_beginning, seen_ask}
+use Rattle.kt_machine.specs.Seen.{SeenProcess, Seen}
+use Rattle.kt_machine.specs.CallTests.{must_take, must_roll}
+use Rattle.kt_machine.specs.ListChanges.{with_rest, with_parcel}
+use Rattle.kt_machine.specs.SeenJoining.{no_note, part_after_ask, seen_member_ask, seen_joining_checkpoint, seen_joining_rollback}
+use Rattle.kt_machine.specs.SeenReplies.{seen_replying, seen_unwilling}
+use Rattle.kt_machine.specs.SeenClosing.{seen_settling}
+use Rattle.kt_machine.specs.SeenMessages.{seen_refusal}
+use Rattle.kt_machine.specs.Transition.{transition, seen_beginning, seen_ask}
 use Rattle.kt_system.specs.Systems.{Whole, state_of}
 use Rattle.kt_system.specs.Shown.{ShowsState, IsTurned, IsInside, JoinsAs, turned_to, begun_as, answered_as, with_cause}
 use Rattle.kt_system.proofs.Messages.{at_same}

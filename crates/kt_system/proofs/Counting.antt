@@ -9,10 +9,10 @@ use Rattle.kt_base.specs.declared.words.Kind.{Kind}
 use Rattle.kt_fifo.specs.Channels.{at_pair}
 use Rattle.kt_fifo.specs.declared.parcels.Parcel.{Parcel}
 use Rattle.kt_fifo.specs.declared.parcels.Parcel.TheVariants.{Ask, Decide}
-use Rattle.kt_parts.specs.Asks.{AreRisingAsks}
-use Rattle.kt_seen.specs.Seen.{SeenLists}
-use Rattle.kt_seen.specs.ListChanges.{with_parcel, with_decisions}
-use Rattle.kt_seen.specs.InOnePiece.{asks_to, with_asks}
+use Rattle.kt_process.specs.Asks.{AreRisingAsks}
+use Rattle.kt_machine.specs.Seen.{SeenLists}
+use Rattle.kt_machine.specs.ListChanges.{with_parcel, with_decisions}
+use Rattle.kt_machine.specs.InOnePiece.{asks_to, with_asks}
 use Rattle.kt_system.specs.Tallies.{total_below, count_in_lists}
 
 total_same : (n : ℕ) (f g : ℕ → ℕ) → ((v : ℕ) → f v ≡ g v) → total_below n f ≡ total_below n g

@@ -6,13 +6,13 @@ use Rattle.std.proofs.lemmas.List.Elements.{All-get_or}
 use Rattle.std.proofs.lemmas.List.Folds.{list_any_at}
 use Rattle.kt_base.specs.Sets.{has}
 use Rattle.kt_base.specs.declared.words.Kind.{Kind}
-use Rattle.kt_parts.specs.Replies.{IsReplyTo}
-use Rattle.kt_parts.specs.Rules.{way_alone, last_action, after_reply}
-use Rattle.kt_parts.specs.Parts.{Part}
-use Rattle.kt_parts.specs.declared.actions.Action.{Action}
-use Rattle.kt_parts.specs.declared.actions.Action.TheVariants.{Nothing, Refuse, Join, Reply, Settle}
-use Rattle.kt_parts.specs.declared.actions.Then.{Then}
-use Rattle.kt_parts.specs.declared.actions.Then.TheVariants.{Wait, Answer, Commit}
+use Rattle.kt_process.specs.Replies.{IsReplyTo}
+use Rattle.kt_process.specs.PartRules.{way_alone, last_action, after_reply}
+use Rattle.kt_process.specs.Parts.{Part}
+use Rattle.kt_process.specs.declared.actions.Action.{Action}
+use Rattle.kt_process.specs.declared.actions.Action.TheVariants.{Nothing, Refuse, Join, Reply, Settle}
+use Rattle.kt_process.specs.declared.actions.Then.{Then}
+use Rattle.kt_process.specs.declared.actions.Then.TheVariants.{Wait, Answer, Commit}
 use Rattle.kt_process.specs.ProcessStates.{ProcessState, part_of_side, is_saving, is_ready, asked_of, asked_of_part}
 use Rattle.kt_process.specs.Turns.{peers_of, joins_by, reply_of, is_of, IsIn, HasPartners, HasJoined, IsBegin, IsHeard}
 use Rattle.kt_process.specs.declared.side.Side.{Side}

@@ -3,7 +3,7 @@ use Rattle.std.specs.Prelude.{true, slice_index_or}
 use Rattle.std.proofs.Common.{◌≡◌, ◌<◌, ◌≤◌, ◌+◌, ℕ, List, ap, subst, sym, ◌∙◌, arith, length}
 use Rattle.kt_base.specs.Sets.{has}
 use Rattle.kt_fifo.specs.Channels.{ChannelLists, channel, spare_of}
-use Rattle.kt_parts.specs.declared.actions.Then.{Then}
+use Rattle.kt_process.specs.declared.actions.Then.{Then}
 use Rattle.kt_process.specs.ProcessStates.{ProcessState, asked_of, is_ready}
 use Rattle.kt_system.specs.Systems.{Whole, state_of, room_to, HasBack, KeepsParcels, KeepsStates, KeepsRoom, GivesRoom, UsesRoom, CanJoin, CanClose}
 use Rattle.kt_system.specs.Shown.{IsTurned}

@@ -16,3 +16,10 @@ pub mod Growing
 pub mod Saving
 pub mod Places
 pub mod Quieting
+pub mod Asking
+pub mod Marks
+pub mod Named
+pub mod Ranges
+pub mod Rest
+pub mod Telling
+pub mod Trimmed

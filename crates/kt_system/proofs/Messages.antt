@@ -5,12 +5,12 @@ use Rattle.std.specs.Prelude.{ℤ}
 use Rattle.std.proofs.lemmas.Bool.Decides.{nat_tests}
 use Rattle.kt_base.specs.declared.words.Cause.TheVariants.{Down}
 use Rattle.kt_base.specs.declared.words.Verb.TheVariants as verb
-use Rattle.kt_cuts.specs.Past.{at_one}
+use Rattle.kt_meaning.specs.Past.{at_one}
 use Rattle.kt_tables.specs.Calls.{Call, sent, Speaks}
 use Rattle.kt_protocol.specs.States.{Send, Fail}
-use Rattle.kt_seen.specs.Seen.{SeenProcess, SeenLists, Seen}
-use Rattle.kt_seen.specs.SeenMessages.{seen_sending, seen_refusal, seen_failing, seen_receiving, seen_dropping, seen_arrival}
-use Rattle.kt_seen.specs.Transition.{transition}
+use Rattle.kt_machine.specs.Seen.{SeenProcess, SeenLists, Seen}
+use Rattle.kt_machine.specs.SeenMessages.{seen_sending, seen_refusal, seen_failing, seen_receiving, seen_dropping, seen_arrival}
+use Rattle.kt_machine.specs.Transition.{transition}
 
 pub at_same : {X : Type 0} (p : ℕ) (x : X) (f : ℕ → X) → at_one p x f p ≡ x
 at_same p x f = grind (arith, nat_tests)

@@ -5,20 +5,20 @@ use Rattle.std.proofs.Common.{append-nil, ◌≡◌, ◌<◌, ◌-◌, ℕ, zero
 use Rattle.std.proofs.lemmas.Bool.Decides.{nat_tests}
 use Rattle.kt_fifo.specs.Channels.{channel}
 use Rattle.kt_fifo.specs.declared.parcels.Parcel.{Parcel}
-use Rattle.kt_parts.specs.Parts.{Part}
-use Rattle.kt_parts.specs.declared.actions.Action.TheVariants as what
+use Rattle.kt_process.specs.Parts.{Part}
+use Rattle.kt_process.specs.declared.actions.Action.TheVariants as what
 use Rattle.kt_process.specs.ProcessStates.{ProcessState, part_of_side, is_ready, IsNumbered}
 use Rattle.kt_process.specs.Turns.{reply_of}
 use Rattle.kt_process.specs.declared.side.Side.{Side}
 use Rattle.kt_process.specs.declared.side.Side.TheVariants as side
 use Rattle.kt_process.specs.Shown.{IsSeenAs, part_shown}
 use Rattle.kt_protocol.specs.States.{Take}
-use Rattle.kt_seen.specs.CallTests.{must_take}
-use Rattle.kt_seen.specs.Seen.{SeenPart, SeenLists, Seen}
-use Rattle.kt_seen.specs.SeenReplies.{part_after_reply}
-use Rattle.kt_seen.specs.Transition.{transition, seen_front, is_seen_ready}
-use Rattle.kt_values.specs.Values.{Act, Keep}
-use Rattle.kt_values.specs.SeenActs.{seen_acts, seen_acts_taking, seen_acts_taking_held, seen_acts_asked, seen_acts_replied, seen_acts_decided, seen_acts_settling}
+use Rattle.kt_machine.specs.CallTests.{must_take}
+use Rattle.kt_machine.specs.Seen.{SeenPart, SeenLists, Seen}
+use Rattle.kt_machine.specs.SeenReplies.{part_after_reply}
+use Rattle.kt_machine.specs.Transition.{transition, seen_front, is_seen_ready}
+use Rattle.kt_machine.specs.Values.{Act, Keep}
+use Rattle.kt_machine.specs.SeenActs.{seen_acts, seen_acts_taking, seen_acts_taking_held, seen_acts_asked, seen_acts_replied, seen_acts_decided, seen_acts_settling}
 use Rattle.kt_system.specs.Reads.{awaited_of, held_parcel, next_parcel, saves_by, would_save}
 use Rattle.kt_system.specs.Shown.{ShowsState}
 use Rattle.kt_system.specs.Systems.{Whole, state_of, LogGrows}

@@ -4,21 +4,21 @@ use Rattle.std.proofs.Common.{◌≡◌, ◌≢◌, ◌≤◌, ℕ, zero, suc, B
 use Rattle.std.proofs.Math.Path.{fun_ext}
 use Rattle.std.proofs.lemmas.Bool.{cases_eq}
 use Rattle.std.proofs.lemmas.Bool.Decides.{nat_tests}
-use Rattle.kt_cuts.specs.Past.{at_one}
+use Rattle.kt_meaning.specs.Past.{at_one}
 use Rattle.kt_fifo.specs.declared.parcels.Parcel.{Parcel}
-use Rattle.kt_parts.specs.Rules.{last_action, after_reply}
-use Rattle.kt_parts.specs.Parts.{Part}
-use Rattle.kt_parts.specs.declared.actions.Action.TheVariants as what
+use Rattle.kt_process.specs.PartRules.{last_action, after_reply}
+use Rattle.kt_process.specs.Parts.{Part}
+use Rattle.kt_process.specs.declared.actions.Action.TheVariants as what
 use Rattle.kt_process.specs.ProcessStates.{ProcessState, part_of_side, inst_of, is_ready, IsNumbered}
 use Rattle.kt_process.specs.Turns.{reply_of}
 use Rattle.kt_process.specs.declared.side.Side.{Side}
 use Rattle.kt_process.specs.declared.side.Side.TheVariants as side
 use Rattle.kt_process.specs.Shown.{IsSeenAs, part_shown, inst_shown, counted_as}
-use Rattle.kt_seen.specs.Seen.{SeenPart, SeenProcess, Seen}
-use Rattle.kt_seen.specs.SeenClosing.{seen_closing, seen_settling}
-use Rattle.kt_seen.specs.SeenMessages.{seen_without_front}
-use Rattle.kt_seen.specs.SeenReplies.{seen_reply, part_after_reply}
-use Rattle.kt_seen.specs.Transition.{is_seen_ready}
+use Rattle.kt_machine.specs.Seen.{SeenPart, SeenProcess, Seen}
+use Rattle.kt_machine.specs.SeenClosing.{seen_closing, seen_settling}
+use Rattle.kt_machine.specs.SeenMessages.{seen_without_front}
+use Rattle.kt_machine.specs.SeenReplies.{seen_reply, part_after_reply}
+use Rattle.kt_machine.specs.Transition.{is_seen_ready}
 use Rattle.kt_system.specs.Shown.{turned_to, gone_on, after_reply_taken, after_decision_taken}
 use Rattle.kt_system.proofs.Messages.{at_same}
 

@@ -4,13 +4,13 @@ use Rattle.std.proofs.Math.Path.{fun_ext}
 use Rattle.std.proofs.lemmas.Bool.{cases_eq}
 use Rattle.std.proofs.lemmas.Bool.Decides.{nat_tests}
 use Rattle.std.proofs.lemmas.List.{get_or-set_same, get_or-set_other}
-use Rattle.kt_cuts.specs.Past.{at_one}
+use Rattle.kt_meaning.specs.Past.{at_one}
 use Rattle.kt_fifo.specs.Channels.{channel, at_pair}
 use Rattle.kt_fifo.specs.declared.parcels.Parcel.{Parcel}
 use Rattle.kt_spacetime.specs.Logs.{Log}
 use Rattle.kt_spacetime.specs.declared.event.Event.{Event}
-use Rattle.kt_seen.specs.Seen.{SeenProcess, SeenLists, Seen}
-use Rattle.kt_seen.specs.ListChanges.{with_parcel, with_rest}
+use Rattle.kt_machine.specs.Seen.{SeenProcess, SeenLists, Seen}
+use Rattle.kt_machine.specs.ListChanges.{with_parcel, with_rest}
 use Rattle.kt_process.specs.ProcessStates.{ProcessState}
 use Rattle.kt_process.specs.Shown.{IsSeenAs}
 use Rattle.kt_system.specs.Systems.{Whole, state_of, no_process, IsSoundSystem, IsSameSystem}

@@ -5,9 +5,9 @@ use Rattle.kt_fifo.specs.declared.parcels.Parcel.{Parcel}
 use Rattle.kt_fifo.specs.declared.parcels.Parcel.TheVariants.{App}
 use Rattle.kt_protocol.specs.States.{Take}
 use Rattle.kt_tables.specs.Calls.{Call, received, Speaks}
-use Rattle.kt_seen.specs.Seen.{SeenProcess, SeenLists, Seen}
-use Rattle.kt_seen.specs.SeenMessages.{seen_arrival, seen_holding}
-use Rattle.kt_seen.specs.Transition.{transition, seen_front, seen_take, is_seen_ready}
+use Rattle.kt_machine.specs.Seen.{SeenProcess, SeenLists, Seen}
+use Rattle.kt_machine.specs.SeenMessages.{seen_arrival, seen_holding}
+use Rattle.kt_machine.specs.Transition.{transition, seen_front, seen_take, is_seen_ready}
 use Rattle.kt_system.proofs.Messages.{at_same, arrives_up}
 
 -- the first of a list, and the rest
@@ -29,8 +29,8 @@ speaks_arrival v channels held p q l m body h u =
 pub speaks_front : (v : Seen) (p q : ℕ) (able : Bool) (l m : ℕ) (body : ℤ) (rest : List Parcel) → Speaks (((seen_front v p q able (App l m body ∷ rest)).states p).calls) → is_seen_ready v p ≡ false → (v.states p).up ≡ true →
     Speaks ((v.states p).calls ++ received q l ∷ [])
 speaks_front v p q able l m body rest h free u =
-    speaks_arrival v (Rattle.kt_seen.specs.ListChanges.with_rest v.channel q p rest) v.held p q l m body
-    (subst (λ (b : Bool). Speaks (((if b then seen_holding v p q (App l m body) rest else seen_arrival v (Rattle.kt_seen.specs.ListChanges.with_rest v.channel q p rest) v.held p q l m body).states p).calls)) free h) u
+    speaks_arrival v (Rattle.kt_machine.specs.ListChanges.with_rest v.channel q p rest) v.held p q l m body
+    (subst (λ (b : Bool). Speaks (((if b then seen_holding v p q (App l m body) rest else seen_arrival v (Rattle.kt_machine.specs.ListChanges.with_rest v.channel q p rest) v.held p q l m body).states p).calls)) free h) u
 
 -- who is ready takes from the channel; who is not, takes what is held first
 pub takes_ready : (v : Seen) (p q : ℕ) (able : Bool) → is_seen_ready v p ≡ true → seen_front v p q able (v.channel q p) ≡ transition v (Take p q able)

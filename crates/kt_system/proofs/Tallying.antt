@@ -6,8 +6,8 @@ use Rattle.kt_fifo.specs.declared.parcels.Parcel.{Parcel}
 use Rattle.kt_fifo.specs.declared.parcels.Parcel.TheVariants.{App, Ask, Reply, Decide}
 use Rattle.kt_base.specs.Sets.{has, count_of}
 use Rattle.kt_base.specs.declared.words.Kind.{Kind}
-use Rattle.kt_seen.specs.ListChanges.{with_parcel, with_decisions}
-use Rattle.kt_seen.specs.InOnePiece.{with_asks}
+use Rattle.kt_machine.specs.ListChanges.{with_parcel, with_decisions}
+use Rattle.kt_machine.specs.InOnePiece.{with_asks}
 use Rattle.kt_system.specs.declared.system.Tally.{Tally}
 use Rattle.kt_system.specs.Systems.{Whole, IsSameSystem}
 use Rattle.kt_system.specs.Shown.{IsTurned}

@@ -6,3 +6,4 @@ pub mod ShownActs
 pub mod Tallies
 pub mod Keeps
 pub mod Counts
+pub mod Kept

@@ -5,7 +5,7 @@ use Rattle.kt_base.specs.declared.words.Kind.TheVariants as kind
 use Rattle.kt_fifo.specs.Channels.{channel}
 use Rattle.kt_fifo.specs.declared.parcels.Parcel.{Parcel}
 use Rattle.kt_fifo.specs.declared.parcels.Parcel.TheVariants.{Ask}
-use Rattle.kt_parts.specs.Parts.{Part}
+use Rattle.kt_process.specs.Parts.{Part}
 use Rattle.kt_process.specs.ProcessStates.{ProcessState, is_ready, inst_of}
 use Rattle.kt_process.specs.Turns.{joins_by}
 use Rattle.kt_system.specs.declared.system.Tally.{Tally}

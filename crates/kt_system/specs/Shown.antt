@@ -6,23 +6,22 @@ use Rattle.kt_spacetime.specs.declared.event.Event.TheVariants.{Took, Ready, Unw
 use Rattle.kt_base.specs.declared.words.Verb.{Verb}
 use Rattle.kt_base.specs.declared.words.Verb.TheVariants as verb
 use Rattle.kt_tables.specs.Peers.{IsCohort}
-use Rattle.kt_process.specs.Shown.{goes_on}
+use Rattle.kt_process.specs.Shown.{goes_on, IsSeenAs}
 use Rattle.kt_spacetime.specs.declared.event.Event.{Event}
 use Rattle.kt_fifo.specs.Channels.{channel}
-use Rattle.kt_seen.specs.Seen.{SeenPart, SeenProcess, SeenLists, Seen}
-use Rattle.kt_seen.specs.ListChanges.{trims, with_asks_where, with_rest, with_parcel}
-use Rattle.kt_seen.specs.InOnePiece.{held_after_rollback, kept_after_rollback}
-use Rattle.kt_seen.specs.SeenClosing.{seen_settling, seen_deciding, seen_closing}
-use Rattle.kt_seen.specs.SeenMessages.{seen_without_front, seen_refusal}
-use Rattle.kt_seen.specs.SeenReplies.{seen_reply}
+use Rattle.kt_machine.specs.Seen.{SeenPart, SeenProcess, SeenLists, Seen}
+use Rattle.kt_machine.specs.ListChanges.{trims, with_asks_where, with_rest, with_parcel}
+use Rattle.kt_machine.specs.InOnePiece.{held_after_rollback, kept_after_rollback}
+use Rattle.kt_machine.specs.SeenClosing.{seen_settling, seen_deciding, seen_closing}
+use Rattle.kt_machine.specs.SeenMessages.{seen_without_front, seen_refusal}
+use Rattle.kt_machine.specs.SeenReplies.{seen_reply}
 use Rattle.kt_base.specs.declared.words.Cause.{Cause}
 use Rattle.kt_fifo.specs.declared.parcels.Parcel.{Parcel}
 use Rattle.kt_fifo.specs.declared.parcels.Parcel.TheVariants as parcel
-use Rattle.kt_parts.specs.declared.actions.Action.{Action}
-use Rattle.kt_parts.specs.declared.actions.Action.TheVariants.{Nothing, Refuse, Join, Reply, Settle}
-use Rattle.kt_cuts.specs.Past.{at_one}
+use Rattle.kt_process.specs.declared.actions.Action.{Action}
+use Rattle.kt_process.specs.declared.actions.Action.TheVariants.{Nothing, Refuse, Join, Reply, Settle}
+use Rattle.kt_meaning.specs.Past.{at_one}
 use Rattle.kt_process.specs.ProcessStates.{inst_of}
-use Rattle.kt_process.specs.Shown.{IsSeenAs}
 use Rattle.kt_system.specs.Systems.{Whole, state_of}
 
 -- its processes, its lists of parcels and its log are those of a state of the machine

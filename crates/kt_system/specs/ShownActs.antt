@@ -2,13 +2,13 @@
 use Rattle.std.specs.Prelude.{Bool, true, List, [], ◌∷◌, ◌++◌}
 use Rattle.kt_base.specs.declared.words.Kind.{Kind}
 use Rattle.kt_base.specs.declared.words.Kind.TheVariants.{Checkpoint, Rollback}
-use Rattle.kt_parts.specs.declared.actions.Action.{Action}
-use Rattle.kt_parts.specs.declared.actions.Action.TheVariants.{Nothing, Refuse, Join, Reply, Settle}
-use Rattle.kt_parts.specs.declared.actions.Then.{Then}
-use Rattle.kt_parts.specs.declared.actions.Then.TheVariants.{Wait, Answer, Commit}
+use Rattle.kt_process.specs.declared.actions.Action.{Action}
+use Rattle.kt_process.specs.declared.actions.Action.TheVariants.{Nothing, Refuse, Join, Reply, Settle}
+use Rattle.kt_process.specs.declared.actions.Then.{Then}
+use Rattle.kt_process.specs.declared.actions.Then.TheVariants.{Wait, Answer, Commit}
 use Rattle.kt_plan.specs.declared.steps.Act.{Act as AnsweredAct}
 use Rattle.kt_plan.specs.declared.steps.Act.TheVariants as answered
-use Rattle.kt_values.specs.Values.{Act, Apply, Keep, Promote, Discard, Restore, Drop, closing}
+use Rattle.kt_machine.specs.Values.{Act, Apply, Keep, Promote, Discard, Restore, Drop, closing}
 
 -- an act, where there is one
 abbrev pub act_shown : AnsweredAct → List Act

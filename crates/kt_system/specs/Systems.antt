@@ -5,11 +5,11 @@ use Rattle.kt_spacetime.specs.Logs.{Log}
 use Rattle.kt_spacetime.specs.declared.event.Event.{Event}
 use Rattle.kt_tables.specs.Peers.{LabelTable}
 use Rattle.kt_tables.specs.States.{State}
-use Rattle.kt_parts.specs.Asks.{AreRisingAsks}
-use Rattle.kt_parts.specs.declared.actions.Action.{Action}
-use Rattle.kt_parts.specs.declared.actions.Action.TheVariants.{Join, Reply, Settle}
-use Rattle.kt_parts.specs.declared.actions.Then.{Then}
-use Rattle.kt_parts.specs.declared.actions.Then.TheVariants.{Answer, Commit}
+use Rattle.kt_process.specs.Asks.{AreRisingAsks}
+use Rattle.kt_process.specs.declared.actions.Action.{Action}
+use Rattle.kt_process.specs.declared.actions.Action.TheVariants.{Join, Reply, Settle}
+use Rattle.kt_process.specs.declared.actions.Then.{Then}
+use Rattle.kt_process.specs.declared.actions.Then.TheVariants.{Answer, Commit}
 use Rattle.kt_process.specs.ProcessStates.{ProcessState, part_of_side, is_ready, asked_of, IsNumbered}
 use Rattle.kt_base.specs.Sets.{has}
 use Rattle.kt_system.specs.declared.system.Tally.{Tally}

@@ -3,7 +3,7 @@ use Rattle.std.specs.Prelude.{◌≡◌, ◌<◌, ◌≤◌, ◌+◌, ◌^◌, �
 use Rattle.kt_fifo.specs.Channels.{channel}
 use Rattle.kt_fifo.specs.declared.parcels.Parcel.{Parcel}
 use Rattle.kt_fifo.specs.declared.parcels.Parcel.TheVariants.{App, Ask, Reply, Decide}
-use Rattle.kt_seen.specs.Seen.{SeenLists}
+use Rattle.kt_machine.specs.Seen.{SeenLists}
 use Rattle.kt_system.specs.Systems.{Whole}
 use Rattle.kt_system.specs.Reads.{tally_of, held_parcel}
 

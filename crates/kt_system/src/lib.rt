@@ -4,8 +4,19 @@
 //! `system/takes.rt`, how many takes there are `system/counts.rt`; one thing each `system/leaves.rt`, of one process
 //! `system/processes.rt`; messages `system/messages.rt`; commands and asks `system/commands.rt`; joining and closing
 //! `system/instances.rt`; any parcel `system/replies.rt`; what a step asks for and keeps `specs/Keeps`.
+//!
+//! Channels changed at the beginning and at the end of an instance: asks and decisions put, kept parcels let go or held
+//! again, and room made for that beforehand.
+//!
+//! **What to change where:** asks and decisions `puts.rt`; kept parcels `kept.rt`; room `rooms.rt`.
 #![tactic(auto)]
 
+mod kept;
+mod puts;
+mod rooms;
 mod system;
 
+pub use kept::{marks_of, restore, trim};
+pub use puts::{put_asks, put_decisions};
+pub use rooms::{make_room, make_room_back, make_room_to};
 pub use system::{System, Tally};

@@ -6,7 +6,7 @@ ghost use Rattle.kt_process.specs.Turns.{IsFresh};
 ghost use Rattle.kt_system.specs.Systems.{state_of};
 ghost use Rattle.kt_system.specs.Reads.{tally_of, no_tally};
 ghost use Rattle.kt_system.specs.Shown.{ShowsState};
-ghost use Rattle.kt_seen.specs.Transition.{opening_seen};
+ghost use Rattle.kt_machine.specs.Transition.{opening_seen};
 
 use kt_base::{Label, Memory};
 use kt_fifo::Channels;

@@ -1,12 +1,25 @@
 //! What the texts of logs and certificates share: fields, records that are read, records that are written.
 //!
 //! **What to change where:** `fields.rt`; the next record `records.rt`; writing, and a number gathered, `pieces.rt`.
+//!
+//! Texts of others as they are shown to a person: at most so many bytes, where a record stands, and what it is to be.
+//!
+//! **What to change where:** which bytes are shown, and how, `shown.rt`; what is read by a name `input.rt`; at which line a
+//! record stands `places.rt`; what records are to be `forms.rt`.
 #![tactic(auto)]
 
 mod fault;
 pub mod fields;
+mod forms;
+mod input;
 pub mod lines;
 pub mod pieces;
+mod places;
 pub mod records;
+mod shown;
 
 pub use fault::{ReadFault, WriteFault};
+pub use forms::{Limit, certificate_form, field_at, limit_of, part_form, row_form};
+pub use input::Input;
+pub use places::Place;
+pub use shown::Shown;

@@ -2,8 +2,8 @@
 use Rattle.std.proofs.Common.{◌≡◌, ◌+◌, ℕ, ℤ, Bool, true, false, List, [], ◌∷◌, ◌++◌, drop, refl, sym, ap, subst, IfSome}
 use Rattle.std.specs.Prelude.{◌&&◌, is_some, is_none, if◌then◌else◌}
 use Rattle.kt_object.specs.Value.{offered}
-use Rattle.kt_held.specs.Fits.{spares_of_all}
-use Rattle.kt_held.specs.Holdings.{Holding, Holds, does_all}
+use Rattle.kt_object.specs.Fits.{spares_of_all}
+use Rattle.kt_object.specs.Holdings.{Holding, Holds, does_all}
 use Rattle.kt_plan.specs.declared.steps.Act.{Act}
 use Rattle.kt_plan.specs.declared.steps.Act.TheVariants.{Nothing, Apply, Keep, Promote, Discard, Restore, Drop}
 use Rattle.kt_plan.specs.declared.steps.Look.{Look}
@@ -11,7 +11,7 @@ use Rattle.kt_plan.specs.declared.steps.Look.TheVariants as look
 use Rattle.kt_run.specs.Objects.{Belongings}
 use Rattle.kt_threads.specs.Errands.{are_no_acts, body_for, errand_of, errands_at, is_no_errand}
 use Rattle.kt_threads.specs.Workers.{IsServed, AreServed}
-use Rattle.kt_errands.specs.declared.errand.Errand.{Errand}
+use Rattle.kt_threads.specs.declared.errand.Errand.{Errand}
 use Rattle.kt_threads.specs.declared.state.Made.{Made}
 
 -- the acts that a step told were done to what its process had; and where the step asked for a body, it was given what the

@@ -1,7 +1,7 @@
 -- The faults of the objects that are given.
 use Rattle.std.proofs.Common.{◌≡◌, ℕ, List, false}
-use Rattle.kt_held.specs.declared.faults.CastFault.{CastFault}
-use Rattle.kt_held.specs.declared.faults.CastFault.TheVariants as cast
+use Rattle.kt_object.specs.declared.held_faults.CastFault.{CastFault}
+use Rattle.kt_object.specs.declared.held_faults.CastFault.TheVariants as cast
 use Rattle.kt_plan.specs.Limits.{Planned}
 use Rattle.kt_run.specs.Faults as run
 use Rattle.kt_threads.specs.Faults.{AnswersLive, live_of_cast, is_of_no_thread}

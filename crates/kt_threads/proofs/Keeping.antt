@@ -1,9 +1,9 @@
 -- What processes have at the end of a run in threads is what is due to them.
 use Rattle.std.proofs.Common.{◌≡◌, ◌∙◌, ◌<◌, arith, ℕ, zero, suc, List, [], ◌∷◌, length, map, refl, ap, subst, Option, Some, None}
 use Rattle.std.specs.Prelude.{option_map, slice_get, slice_index_or}
-use Rattle.kt_held.specs.Holdings.{Content, content, AreSaved}
+use Rattle.kt_object.specs.Holdings.{Content, content, AreSaved}
 use Rattle.kt_plan.specs.Limits.{Planned}
-use Rattle.kt_plans.specs.Progress.{progress_at_start}
+use Rattle.kt_promises.specs.Progress.{progress_at_start}
 use Rattle.kt_run.specs.Objects.{Belongings, rules_of, first_of, rules_by, HoldsDue, HoldDue}
 use Rattle.kt_run.specs.Runs.{IsRun}
 use Rattle.kt_spacetime.specs.declared.event.Event.{Event}
@@ -11,7 +11,7 @@ use Rattle.kt_threads.specs.Histories as histories
 use Rattle.kt_threads.specs.Histories.{AreTheirs}
 use Rattle.kt_threads.specs.Moves.{move_of}
 use Rattle.kt_threads.specs.Workers.{AreServed, AllServed}
-use Rattle.kt_errands.specs.declared.errand.Errand.{Errand}
+use Rattle.kt_threads.specs.declared.errand.Errand.{Errand}
 use Rattle.kt_threads.specs.declared.state.Made.{Made}
 use Rattle.kt_threads.specs.WorldLaws.{WorldLaws}
 use Rattle.kt_threads.proofs.Moving.{run_of, served_of, nothing_tentative}

@@ -1,3 +1,6 @@
+pub mod Fronts
+pub mod Adding
+pub mod Counting
 pub mod Zips
 pub mod Casting
 pub mod Replay

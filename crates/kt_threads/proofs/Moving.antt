@@ -5,19 +5,19 @@ use Rattle.std.specs.Prelude.{if◌then◌else◌}
 use Rattle.kt_core.specs.Agendas.{Agenda}
 use Rattle.kt_core.specs.Shown.{Mirrors}
 use Rattle.kt_core.specs.Worlds.{World}
-use Rattle.kt_held.specs.Holdings.{Content}
+use Rattle.kt_object.specs.Holdings.{Content}
 use Rattle.kt_plan.specs.Limits.{Planned, IsPlan}
 use Rattle.kt_plan.specs.declared.steps.Told.{Told}
-use Rattle.kt_plans.specs.Offers.{SendsWhatIsOffered}
-use Rattle.kt_plans.specs.Runs.{after_moves, RunReaches}
-use Rattle.kt_plans.specs.Steps.{enabled, progress_after, is_at_rest}
-use Rattle.kt_plans.specs.Told.{told_by}
-use Rattle.kt_plans.specs.Progress.{Progress, progress_at_start}
+use Rattle.kt_promises.specs.Offers.{SendsWhatIsOffered}
+use Rattle.kt_promises.specs.Runs.{after_moves, RunReaches}
+use Rattle.kt_promises.specs.Steps.{enabled, progress_after, is_at_rest}
+use Rattle.kt_promises.specs.Told.{told_by}
+use Rattle.kt_promises.specs.Progress.{Progress, progress_at_start}
 use Rattle.kt_run.specs.Objects.{Belongings, rules_of, rules_by, first_of, HoldsDue}
 use Rattle.kt_run.specs.Runs.{IsRun}
 use Rattle.kt_run.specs.Telling.{numbered_rows_by, numbered_rows_told, AreToldTheirRows, IsToldAs}
-use Rattle.kt_values.specs.Done.{done}
-use Rattle.kt_values.specs.Values.{Rules, due}
+use Rattle.kt_machine.specs.Done.{done}
+use Rattle.kt_machine.specs.Values.{Rules, due}
 use Rattle.kt_spacetime.specs.declared.event.Event.{Event}
 use Rattle.kt_threads.specs.Errands.{errands_of}
 use Rattle.kt_threads.specs.Histories as histories

@@ -6,17 +6,17 @@ use Rattle.std.specs.declared.alloc.Global.{Global}
 use Rattle.std.specs.declared.dyn_box.DynBox.{DynBox}
 use Rattle.std.proofs.lemmas.List.Elements.{All-head, All-tail}
 use Rattle.kt_object.specs.Bytes.{IsSavedState}
-use Rattle.kt_held.specs.Holdings.{Content, content, Holding, Holds, applied, does, does_all}
-use Rattle.kt_held.specs.Refusals.{held_objects, IsRejected}
-use Rattle.kt_held.specs.declared.faults.ActFault.{ActFault}
-use Rattle.kt_held.specs.declared.faults.ActFault.TheVariants as act
-use Rattle.kt_held.specs.declared.held.Held.{Held}
+use Rattle.kt_object.specs.Holdings.{Content, content, Holding, Holds, applied, does, does_all}
+use Rattle.kt_object.specs.Refusals.{held_objects, IsRejected}
+use Rattle.kt_object.specs.declared.held_faults.ActFault.{ActFault}
+use Rattle.kt_object.specs.declared.held_faults.ActFault.TheVariants as act
+use Rattle.kt_object.specs.declared.held.Held.{Held}
 use Rattle.kt_plan.specs.declared.steps.Act.{Act}
 use Rattle.kt_plan.specs.declared.steps.Act.TheVariants.{Nothing, Apply, Keep, Promote, Discard, Restore, Drop}
 use Rattle.kt_run.specs.Objects.{Belongings, belongings_of, has_of, first_of, rules_of, holding_of, HoldsDue, HoldDue}
 use Rattle.kt_run.specs.Rejections.{MayReject, objects_held}
-use Rattle.kt_values.specs.Done.{done}
-use Rattle.kt_values.specs.Values.{Due, due}
+use Rattle.kt_machine.specs.Done.{done}
+use Rattle.kt_machine.specs.Values.{Due, due}
 use Rattle.kt_threads.specs.Faults.{AnswersFirst, live_of_act, live_stopped_at}
 use Rattle.kt_threads.specs.Workers.{IsOfKind, HasOf, KeepsObjects, KeepsServing}
 use Rattle.kt_threads.specs.declared.faults.LiveFault.{LiveFault}

@@ -13,8 +13,8 @@ use Rattle.kt_plan.specs.declared.steps.Step.{Step}
 use Rattle.kt_plan.specs.declared.steps.Step.TheVariants.{Take}
 use Rattle.kt_plan.specs.declared.steps.Act.TheVariants as act
 use Rattle.kt_plan.specs.declared.steps.Look.TheVariants as need
-use Rattle.kt_plans.specs.Looks as run_looks
-use Rattle.kt_plans.specs.Progress.{Progress, progress_at_start}
+use Rattle.kt_promises.specs.Looks as run_looks
+use Rattle.kt_promises.specs.Progress.{Progress, progress_at_start}
 use Rattle.kt_system.specs.Systems.{Whole, IsSameSystem}
 use Rattle.kt_spacetime.specs.declared.event.Event.{Event}
 use Rattle.kt_threads.specs.Histories.{IsMade, StepsLead, IsHistory}

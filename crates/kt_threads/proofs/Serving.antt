@@ -7,14 +7,14 @@ use Rattle.kt_plan.specs.declared.steps.Give.{Give}
 use Rattle.kt_plan.specs.declared.steps.Step.TheVariants.{Do, Take}
 use Rattle.kt_core.specs.Shown.{Mirrors}
 use Rattle.kt_core.specs.Worlds.{World}
-use Rattle.kt_plans.specs.Steps.{process_of_step, enabled, progress_after}
-use Rattle.kt_held.specs.Holdings.{Content}
-use Rattle.kt_plans.specs.Runs.{Move, after_moves}
+use Rattle.kt_promises.specs.Steps.{process_of_step, enabled, progress_after}
+use Rattle.kt_object.specs.Holdings.{Content}
+use Rattle.kt_promises.specs.Runs.{Move, after_moves}
 use Rattle.kt_plan.specs.Limits.{Planned}
-use Rattle.kt_plans.specs.Offers.{GivesOffer, GivesOffers}
-use Rattle.kt_plans.specs.Progress.{Progress}
+use Rattle.kt_promises.specs.Offers.{GivesOffer, GivesOffers}
+use Rattle.kt_promises.specs.Progress.{Progress}
 use Rattle.kt_run.specs.Objects.{Belongings, rules_of, first_of, HoldsDue}
-use Rattle.kt_values.specs.Values.{Rules}
+use Rattle.kt_machine.specs.Values.{Rules}
 use Rattle.kt_threads.specs.Errands.{errands_of}
 use Rattle.kt_threads.specs.Histories.{IsMade, made_by}
 use Rattle.kt_threads.specs.Moves.{move_of}

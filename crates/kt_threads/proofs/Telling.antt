@@ -5,11 +5,11 @@ use Rattle.std.specs.Prelude.{if◌then◌else◌}
 use Rattle.std.proofs.lemmas.Bool.Decides.{nat_tests}
 use Rattle.kt_core.specs.Shown.{Mirrors}
 use Rattle.kt_core.specs.Worlds.{World}
-use Rattle.kt_plans.specs.Steps.{process_of_step, progress_after}
+use Rattle.kt_promises.specs.Steps.{process_of_step, progress_after}
 use Rattle.kt_plan.specs.Limits.{Planned}
 use Rattle.kt_plan.specs.declared.steps.Told.{Told}
-use Rattle.kt_plans.specs.Told.{StepTold, told_at, told_by, told_by_move}
-use Rattle.kt_plans.specs.Progress.{Progress}
+use Rattle.kt_promises.specs.Told.{StepTold, told_at, told_by, told_by_move}
+use Rattle.kt_promises.specs.Progress.{Progress}
 use Rattle.kt_run.specs.Runs.{IsToldStep}
 use Rattle.kt_run.specs.Telling.{rows_of, numbered_rows_told, numbered_rows_by, TellsItsRows, IsToldAs, told_here}
 use Rattle.kt_spacetime.specs.declared.event.Event.{Event}

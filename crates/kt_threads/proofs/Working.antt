@@ -7,15 +7,15 @@ use Rattle.std.specs.declared.dyn_box.DynBox.{DynBox}
 use Rattle.std.proofs.lemmas.List.{drop-drop, drop-map}
 use Rattle.std.proofs.lemmas.List.Elements.{All-head, All-tail, All-cons, All-nil}
 use Rattle.kt_object.specs.Value.{offered}
-use Rattle.kt_held.specs.Fits.{spares_of_all}
-use Rattle.kt_held.specs.Holdings.{Content, Holding, Holds, does_all}
-use Rattle.kt_held.specs.declared.held.Held.{Held}
+use Rattle.kt_object.specs.Fits.{spares_of_all}
+use Rattle.kt_object.specs.Holdings.{Content, Holding, Holds, does_all}
+use Rattle.kt_object.specs.declared.held.Held.{Held}
 use Rattle.kt_plan.specs.declared.steps.Act.{Act}
 use Rattle.kt_plan.specs.declared.steps.Look.TheVariants as look
 use Rattle.kt_run.specs.Objects.{Belongings, belongings_of, has_of, AreLeft}
 use Rattle.kt_threads.specs.Errands.{errand_of}
 use Rattle.kt_threads.specs.Workers.{IsServed, AreServed, KeepsServing, AllServed}
-use Rattle.kt_errands.specs.declared.errand.Errand.{Errand}
+use Rattle.kt_threads.specs.declared.errand.Errand.{Errand}
 use Rattle.kt_threads.specs.declared.worker.Worker.{Worker}
 use Rattle.kt_threads.specs.declared.state.Made.{Made}
 use Rattle.kt_threads.proofs.Asking.{noted_body}

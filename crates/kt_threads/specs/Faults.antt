@@ -2,11 +2,11 @@
 use Rattle.std.specs.Prelude.{◌≡◌, ◌⊎◌, ℕ, List, Bool, true, false, Option, Some, None, slice_index_or}
 use Rattle.kt_core.specs.declared.faults.StepFault.{StepFault}
 use Rattle.kt_core.specs.declared.faults.StepFault.TheVariants as step
-use Rattle.kt_held.specs.Casts.{HasSizes}
-use Rattle.kt_held.specs.declared.faults.ActFault.{ActFault}
-use Rattle.kt_held.specs.declared.faults.ActFault.TheVariants as act
-use Rattle.kt_held.specs.declared.faults.CastFault.{CastFault}
-use Rattle.kt_held.specs.declared.faults.CastFault.TheVariants as cast
+use Rattle.kt_object.specs.Casts.{HasSizes}
+use Rattle.kt_object.specs.declared.held_faults.ActFault.{ActFault}
+use Rattle.kt_object.specs.declared.held_faults.ActFault.TheVariants as act
+use Rattle.kt_object.specs.declared.held_faults.CastFault.{CastFault}
+use Rattle.kt_object.specs.declared.held_faults.CastFault.TheVariants as cast
 use Rattle.kt_plan.specs.Limits.{Planned}
 use Rattle.kt_run.specs.Faults.{IsCast, HasOtherKind}
 use Rattle.kt_threads.specs.declared.spawning.SpawnFault.{SpawnFault}

@@ -3,15 +3,15 @@ use Rattle.std.specs.Prelude.{◌≡◌, ◌<◌, ◌+◌, ◌^◌, ◌==◌, �
 use Rattle.kt_core.specs.Making.{KeepsPlan, MakesStep}
 use Rattle.kt_core.specs.Shown as core
 use Rattle.kt_core.specs.Worlds.{World, IsOpening, IsWorldAtRest, IsSameWorld, numbered_row, step_refusal}
-use Rattle.kt_plans.specs.Steps.{process_of_step}
-use Rattle.kt_held.specs.Holdings.{Content}
+use Rattle.kt_promises.specs.Steps.{process_of_step}
+use Rattle.kt_object.specs.Holdings.{Content}
 use Rattle.kt_plan.specs.Limits.{Planned}
 use Rattle.kt_plan.specs.declared.steps.Told.{Told}
-use Rattle.kt_plans.specs.Looks as run_looks
-use Rattle.kt_plans.specs.Progress.{Progress, progress_at_start}
+use Rattle.kt_promises.specs.Looks as run_looks
+use Rattle.kt_promises.specs.Progress.{Progress, progress_at_start}
 use Rattle.kt_run.specs.Runs.{IsRun}
 use Rattle.kt_spacetime.specs.declared.event.Event.{Event}
-use Rattle.kt_errands.specs.declared.errand.Errand.{Errand}
+use Rattle.kt_threads.specs.declared.errand.Errand.{Errand}
 use Rattle.kt_threads.specs.declared.faults.LiveFault.{LiveFault}
 use Rattle.kt_threads.specs.declared.state.Made.{Made}
 use Rattle.kt_threads.specs.Errands.{errands_of}

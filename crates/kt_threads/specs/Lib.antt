@@ -1,3 +1,5 @@
+pub mod Books
+pub mod BookRules
 pub mod Errands
 pub mod Faults
 pub mod FaultTexts

@@ -6,9 +6,9 @@ use Rattle.kt_core.specs.Ready.{IsReady}
 use Rattle.kt_core.specs.Shown.{Mirrors}
 use Rattle.kt_core.specs.Worlds.{World, can_make, step_refusal, IsWorldAtRest, IsNextStepOf}
 use Rattle.kt_core.specs.declared.ready.Ready.{Ready}
-use Rattle.kt_plans.specs.Looks as run_looks
-use Rattle.kt_plans.specs.Progress.{Progress}
-use Rattle.kt_plans.specs.Steps.{process_of_step}
+use Rattle.kt_promises.specs.Looks as run_looks
+use Rattle.kt_promises.specs.Progress.{Progress}
+use Rattle.kt_promises.specs.Steps.{process_of_step}
 use Rattle.kt_plan.specs.declared.steps.Step.{Step}
 use Rattle.kt_threads.specs.Faults.{live_of_step}
 use Rattle.kt_threads.specs.Errands.{errand_of, is_no_errand}

@@ -4,13 +4,13 @@ use Rattle.std.specs.List.{Any}
 use Rattle.std.specs.declared.alloc.Global.{Global}
 use Rattle.std.specs.declared.dyn_box.DynBox.{DynBox}
 use Rattle.kt_object.specs.Value.{offered}
-use Rattle.kt_held.specs.Fits.{spares_of_all}
-use Rattle.kt_held.specs.Holdings.{Content, Holding, Holds, does_all}
-use Rattle.kt_held.specs.Refusals.{held_objects}
+use Rattle.kt_object.specs.Fits.{spares_of_all}
+use Rattle.kt_object.specs.Holdings.{Content, Holding, Holds, does_all}
+use Rattle.kt_object.specs.Refusals.{held_objects}
 use Rattle.kt_run.specs.Objects.{Belongings, belongings_of, AreLeft}
 use Rattle.kt_run.specs.Rejections.{MayReject}
 use Rattle.kt_threads.specs.declared.worker.Worker.{Worker}
-use Rattle.kt_errands.specs.declared.errand.Errand.{Errand}
+use Rattle.kt_threads.specs.declared.errand.Errand.{Errand}
 use Rattle.kt_threads.specs.declared.faults.LiveFault.TheVariants.{Object}
 
 -- if all acts could be done: where of these objects all but the first ones were left as a process's spares, so they are later

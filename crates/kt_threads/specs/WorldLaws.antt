@@ -3,7 +3,7 @@ use Rattle.std.specs.Prelude.{◌≡◌, ◌≢◌, ℕ, ℤ, true, None, Some, 
 use Rattle.kt_core.specs.Making.{MakesStep}
 use Rattle.kt_core.specs.Shown.{Mirrors}
 use Rattle.kt_core.specs.Worlds.{World, IsSameWorld, IsWorldAtRest}
-use Rattle.kt_held.specs.Holdings.{Content}
+use Rattle.kt_object.specs.Holdings.{Content}
 use Rattle.kt_object.specs.Value.{offered}
 use Rattle.kt_plan.specs.Limits.{Planned, IsPlan}
 use Rattle.kt_plan.specs.declared.steps.Act.{Act}
@@ -11,20 +11,20 @@ use Rattle.kt_plan.specs.declared.steps.Give.{Give}
 use Rattle.kt_plan.specs.declared.steps.Look.TheVariants.{NeedsBody}
 use Rattle.kt_plan.specs.declared.steps.Step.{Step}
 use Rattle.kt_plan.specs.declared.steps.Told.{Told}
-use Rattle.kt_plans.specs.Looks.{look}
-use Rattle.kt_plans.specs.Offers.{GivesOffer, GivesOffers, SendsWhatIsOffered}
-use Rattle.kt_plans.specs.Progress.{Progress, progress_at_start}
-use Rattle.kt_plans.specs.Runs.{Move, RunReaches, after_moves}
-use Rattle.kt_plans.specs.Steps.{is_at_rest, process_of_step, progress_after}
-use Rattle.kt_plans.specs.Told.{told_at}
+use Rattle.kt_promises.specs.Looks.{look}
+use Rattle.kt_promises.specs.Offers.{GivesOffer, GivesOffers, SendsWhatIsOffered}
+use Rattle.kt_promises.specs.Progress.{Progress, progress_at_start}
+use Rattle.kt_promises.specs.Runs.{Move, RunReaches, after_moves}
+use Rattle.kt_promises.specs.Steps.{is_at_rest, process_of_step, progress_after}
+use Rattle.kt_promises.specs.Told.{told_at}
 use Rattle.kt_run.specs.Objects.{Belongings, rules_of, first_of, HoldsDue, IsDone}
 use Rattle.kt_run.specs.Runs.{IsToldStep}
 use Rattle.kt_run.specs.Telling.{numbered_rows_by, numbered_rows_told, told_here, IsToldAs, TellsItsRows}
 use Rattle.kt_spacetime.specs.declared.event.Event.{Event}
-use Rattle.kt_values.specs.Done.{done}
-use Rattle.kt_values.specs.Values.{Rules, due}
+use Rattle.kt_machine.specs.Done.{done}
+use Rattle.kt_machine.specs.Values.{Rules, due}
 
--- what kt_core, kt_run and kt_plans say of worlds, their steps and their runs, by their laws
+-- what kt_core, kt_run and kt_promises say of worlds, their steps and their runs, by their laws
 pub record WorldLaws : Type 0 where
   -- runs_of_worlds
   pub rest : (w : World) (first : ℕ) (v : Progress) → Mirrors w.agenda w.system first v → IsWorldAtRest w

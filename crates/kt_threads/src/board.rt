@@ -1,17 +1,18 @@
 //! The lock, and what each thread does at it.
 
 ghost use Rattle.std.specs.Prelude.{◌≡◌, ◌≢◌, ◌↔◌, [], IfSome, IsTrue};
-ghost use Rattle.kt_errands.specs.Errands.{entry};
-ghost use Rattle.kt_plans.specs.Steps.{process_of_step};
+ghost use Rattle.kt_threads.specs.Books.{entry};
+ghost use Rattle.kt_promises.specs.Steps.{process_of_step};
 ghost use Rattle.kt_threads.specs.Errands.{errand_of};
 ghost use Rattle.kt_threads.specs.Turns.{HasStep, IsOver};
 
+use crate::book::Naming;
 use crate::faults::LiveFault;
 use crate::minutes::{MOST_IN_ONE_HOLD, Minutes, Notes, Noting};
+use crate::sides::{Receipt, Recorder};
 use crate::state::{Acted, State};
 use kt_base::{Memory, ProcNo};
 use kt_core::Ready;
-use kt_errands::{Naming, Receipt, Recorder};
 use kt_plan::{Give, Look, Plan, Step};
 use std::alloc::Global;
 use std::sync::{Mutex, Wait};

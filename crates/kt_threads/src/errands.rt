@@ -1,14 +1,16 @@
 //! What steps ask of their process's object, and whether threads did what was noted of their processes.
 
 ghost use Rattle.std.specs.Prelude.{◌≡◌, ◌<◌, true, false, [], ◌∷◌, ◌++◌, ℕ, map, length, slice_index_or, IfOk, IfSome, IfNone, OnOk};
-ghost use Rattle.kt_errands.specs.Errands.{entry, errands_by};
-ghost use Rattle.kt_plans.specs.Steps.{process_of_step};
+ghost use Rattle.kt_threads.specs.Books.{entry, errands_by};
+ghost use Rattle.kt_promises.specs.Steps.{process_of_step};
 ghost use Rattle.kt_threads.specs.Noted.{AreAskedBy};
 ghost use Rattle.kt_threads.specs.Errands.{body_for, are_no_acts, errand_of, is_no_errand};
 
+use crate::book::Naming;
+use crate::errand::Errand;
+use crate::sides::{Done, Receipt, Recorder};
 use crate::state::Acted;
 use kt_base::{Memory, ProcNo};
-use kt_errands::{Done, Errand, Naming, Receipt, Recorder};
 use kt_plan::{Act, Look, Step};
 
 /// Whose step it is.

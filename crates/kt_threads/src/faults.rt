@@ -7,7 +7,7 @@ ghost use Rattle.kt_threads.specs.Faults.{is_of_no_thread, live_of_act, live_of_
 use crate::spawning::SpawnFault;
 use kt_base::{Memory, ProcNo};
 use kt_core::StepFault;
-use kt_held::{ActFault, CastFault};
+use kt_object::{ActFault, CastFault};
 use std::alloc::AllocError;
 use std::fmt;
 

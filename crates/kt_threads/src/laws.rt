@@ -9,5 +9,5 @@ pub(crate) fn laws_of_worlds()
     kt_core::runs_of_worlds();
     kt_run::steps_of_worlds();
     // what an object holds is a list of numbers, and so is an array to a clause
-    kt_plans::values_of_runs::<[i64; 1]>();
+    kt_promises::values_of_runs::<[i64; 1]>();
 }

@@ -1,21 +1,22 @@
 //! What lies under the lock: a state, and what is noted of the steps that led to it.
 
 ghost use Rattle.std.specs.Prelude.{◌≡◌, ◌⊎◌, ◌^◌, ◌≤◌, [], ◌∷◌, ◌++◌, true, false, None, map, option_map, IfOk, IfNone, IfSome, IsSome, IsTrue, OnOk, ◌↔◌};
-ghost use Rattle.kt_errands.specs.Errands.{entry};
-ghost use Rattle.kt_plans.specs.Steps.{process_of_step};
+ghost use Rattle.kt_threads.specs.Books.{entry};
+ghost use Rattle.kt_promises.specs.Steps.{process_of_step};
 ghost use Rattle.kt_threads.specs.Errands.{errand_of};
 ghost use Rattle.kt_threads.specs.Noted.{AreNoted, AreToldBy};
 ghost use Rattle.kt_threads.specs.Rows.{four_rows};
 ghost use Rattle.kt_threads.specs.Turns.{EndsBy, GoesOnQuietly, HasStep, IsMadeQuietly, IsNext, IsReadyStep};
 
 use crate::board::Next;
+use crate::book::Naming;
 use crate::errands::{note_errand, process_of};
 use crate::faults::LiveFault;
 use crate::lists::{StepList, ToldLists};
+use crate::sides::{Receipt, Recorder};
 use crate::state::{Acted, State};
 use kt_base::{Memory, ProcNo, ProcSet};
 use kt_core::{Priority, Ready};
-use kt_errands::{Naming, Receipt, Recorder};
 use kt_plan::{Give, Step, Told};
 use kt_run::Keep;
 use std::alloc::Global;

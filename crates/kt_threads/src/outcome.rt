@@ -3,11 +3,11 @@
 ghost use Rattle.std.specs.List.{AllZip};
 ghost use Rattle.std.specs.Prelude.{◌≡◌, ◌≢◌, ◌⊎◌, [], ℕ, List, length, true, false, None, Some, All, map, option_map, slice_index, slice_index_or, OnOk, IfOk, IfErr, IsTrue, ◌↔◌};
 ghost use Rattle.kt_core.specs.Worlds.{IsWorldAtRest};
-ghost use Rattle.kt_errands.specs.declared.errand.Errand.{Errand};
-ghost use Rattle.kt_held.specs.Holdings.{Content, content};
-ghost use Rattle.kt_held.specs.Refusals.{IsLeastRefused};
-ghost use Rattle.kt_plans.specs.Follows.{FollowsPlan};
-ghost use Rattle.kt_plans.specs.Headline.{IsCertified, IsPromised};
+ghost use Rattle.kt_threads.specs.declared.errand.Errand.{Errand};
+ghost use Rattle.kt_object.specs.Holdings.{Content, content};
+ghost use Rattle.kt_object.specs.Refusals.{IsLeastRefused};
+ghost use Rattle.kt_meaning.specs.Follows.{FollowsPlan};
+ghost use Rattle.kt_meaning.specs.Promised.{IsCertified, IsPromised};
 ghost use Rattle.kt_run.specs.Faults.{IsCast};
 ghost use Rattle.kt_run.specs.Objects.{first_of, has_of, HoldDue, AreLeft};
 ghost use Rattle.kt_run.specs.Rejections.{MayReject, objects_held};
@@ -20,17 +20,17 @@ ghost use Rattle.kt_threads.specs.Noted.{AreListed, AreNoted, AreToldBy};
 ghost use Rattle.kt_threads.specs.Workers.{AllServed, KeepsServing};
 
 use crate::board::Board;
+use crate::book::{Naming, Opened};
 use crate::errands::all_agree;
 use crate::faults::LiveFault;
 use crate::laws::laws_of_worlds;
 use crate::minutes::{Minutes, Noting};
+use crate::sides::{Done, Recorder};
 use crate::spawning::{SpawnFault, run_all};
 use crate::state::{Acted, State};
 use crate::worker::{Worker, work};
 use kt_base::ProcNo;
-use kt_errands::{Done, Naming, Opened, Recorder};
-use kt_held::{Cast, Held, begin_all};
-use kt_object::Recoverable;
+use kt_object::{Cast, Held, Recoverable, begin_all};
 use kt_plan::{Plan, Step, Told};
 use kt_run::Outcome;
 use kt_spacetime::SpaceTime;
@@ -319,7 +319,7 @@ pub(crate) fn run_cast<R: Threads + Wait + Sync>(
         ⊎ MayReject (λ b saved. may_reject b saved) (slice_index plan.now.kinds p)
         (slice_index_or (map (λ row. row.items) cast.items) p [])) }
 {
-    kt_plans::certificates_of_promised_logs();
+    kt_meaning::certificates_of_promised_logs();
     laws_of_worlds();
     let objects = first_objects(alloc, plan, cast)?;
     let run = work_out::<Brand, R>(rt, alloc, plan, objects, noting, Opened::new())?;

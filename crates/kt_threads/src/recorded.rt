@@ -1,10 +1,10 @@
 //! Runs in threads of which the log is kept, and the steps if they are asked for.
 
 ghost use Rattle.std.specs.Prelude.{◌≡◌, ◌⊎◌, [], ℕ, map, slice_index, slice_index_or, OnOk, IfOk, IfErr, IfSome, Some};
-ghost use Rattle.kt_held.specs.Holdings.{content};
-ghost use Rattle.kt_held.specs.Refusals.{IsLeastRefused};
-ghost use Rattle.kt_plans.specs.Follows.{FollowsPlan};
-ghost use Rattle.kt_plans.specs.Headline.{IsCertified, IsPromised};
+ghost use Rattle.kt_object.specs.Holdings.{content};
+ghost use Rattle.kt_object.specs.Refusals.{IsLeastRefused};
+ghost use Rattle.kt_meaning.specs.Follows.{FollowsPlan};
+ghost use Rattle.kt_meaning.specs.Promised.{IsCertified, IsPromised};
 ghost use Rattle.kt_run.specs.Faults.{IsCast};
 ghost use Rattle.kt_run.specs.Orders.{IsRunBy};
 ghost use Rattle.kt_run.specs.Rejections.{MayReject};
@@ -14,8 +14,7 @@ ghost use Rattle.kt_threads.specs.Faults.{AnswersLive};
 use crate::faults::LiveFault;
 use crate::minutes::Noting;
 use crate::outcome::run_cast;
-use kt_held::Cast;
-use kt_object::Recoverable;
+use kt_object::{Cast, Recoverable};
 use kt_plan::{Plan, Step};
 use kt_run::{Keep, RecordedRun};
 use std::alloc::Global;

@@ -3,9 +3,9 @@
 ghost use Rattle.std.specs.Prelude.{◌≡◌, ◌⊎◌, ◌+◌, ◌^◌, [], ◌∷◌, ◌++◌, false, pos, None, Some, IfOk, IfErr, IfSome, IfNone, OnErr, IsTrue, ◌↔◌, ◌<◌, ◌≤◌, length, map, option_map, vec_len, vec_capacity};
 ghost use Rattle.kt_core.specs.Choices.{HasNoOthers};
 ghost use Rattle.kt_core.specs.Worlds.{needs, numbered_row, step_refusal, IsWorldAtRest, IsOpening, IsSameWorld};
-ghost use Rattle.kt_plans.specs.Follows.{FollowsPlan};
-ghost use Rattle.kt_plans.specs.Headline.{IsPromised};
-ghost use Rattle.kt_plans.specs.Steps.{process_of_step};
+ghost use Rattle.kt_meaning.specs.Follows.{FollowsPlan};
+ghost use Rattle.kt_meaning.specs.Promised.{IsPromised};
+ghost use Rattle.kt_promises.specs.Steps.{process_of_step};
 ghost use Rattle.kt_threads.specs.Histories.{IsMade, IsHistory, first_fault};
 ghost use Rattle.kt_threads.specs.Rows.{four_rows};
 ghost use Rattle.kt_threads.specs.Turns.{IsMadeQuietly, IsNext, IsOver, IsReadyStep};

@@ -1,22 +1,23 @@
 //! What one thread does.
 
 ghost use Rattle.std.specs.Prelude.{◌≡◌, [], None, Some, IfSome, IsTrue, ◌↔◌};
-ghost use Rattle.kt_errands.specs.Errands.{entry};
+ghost use Rattle.kt_threads.specs.Books.{entry};
 ghost use Rattle.kt_object.specs.Bytes.{IsSavedState};
 ghost use Rattle.kt_object.specs.Value.{offered};
-ghost use Rattle.kt_held.specs.Holdings.{content};
-ghost use Rattle.kt_plans.specs.Steps.{process_of_step};
+ghost use Rattle.kt_object.specs.Holdings.{content};
+ghost use Rattle.kt_promises.specs.Steps.{process_of_step};
 ghost use Rattle.kt_threads.specs.Errands.{errand_of};
 ghost use Rattle.kt_threads.specs.Workers.{KeepsServing};
 
 use crate::board::{Board, Next};
+use crate::book::Naming;
+use crate::errand::Errand;
 use crate::errands::errand_for;
 use crate::faults::LiveFault;
+use crate::sides::{Done, Receipt, Recorder};
 use crate::state::Acted;
 use kt_base::ProcNo;
-use kt_errands::{Done, Errand, Naming, Receipt, Recorder};
-use kt_held::Held;
-use kt_object::Recoverable;
+use kt_object::{Held, Recoverable};
 use kt_plan::{Look, Step};
 use std::alloc::Global;
 use std::sync::Wait;

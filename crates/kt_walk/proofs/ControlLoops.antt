@@ -4,15 +4,15 @@ use Rattle.std.specs.Prelude.{slice_index_or}
 use Rattle.std.proofs.lemmas.Bool.{cases_eq}
 use Rattle.std.proofs.lemmas.Bool.Decides.{nat_tests}
 use Rattle.kt_base.specs.Sets.{has}
-use Rattle.kt_cuts.specs.declared.deeds.Deed.{Deed}
-use Rattle.kt_cuts.specs.declared.instances.Instance.{Instance}
+use Rattle.kt_spacetime.specs.declared.deeds.Deed.{Deed}
+use Rattle.kt_rules.specs.declared.instances.Instance.{Instance}
 use Rattle.kt_walk.specs.declared.control.ControlState.{ControlState}
 use Rattle.kt_walk.specs.declared.process_state.ProcessState.{ProcessState}
-use Rattle.kt_cuts.specs.Past.{Past, at_one}
+use Rattle.kt_meaning.specs.Past.{Past, at_one}
 use Rattle.kt_walk.specs.Stages.{with_permanent, with_live, permanent_below, permanent_at, undone_below, undone_at, IsWithin}
 use Rattle.kt_walk.specs.ControlOf.{KeepsRest}
 use Rattle.kt_walk.specs.PartsOf.{ShowsProcessStates}
-use Rattle.kt_cuts.proofs.Shown.{at_same, at_other}
+use Rattle.kt_meaning.proofs.Shown.{at_same, at_other}
 
 pub keeps_rest : (t : ControlState) → KeepsRest t t
 keeps_rest t = record { rows = refl; instances = refl; beginning = refl; drops = refl }

@@ -3,14 +3,13 @@ use Rattle.std.proofs.Common.{◌≡◌, ◌≢◌, ℕ, ◌<◌, ◌≤◌, Som
 use Rattle.std.specs.List.{slice_get}
 use Rattle.std.proofs.lemmas.Bool.{cases_eq}
 use Rattle.std.proofs.lemmas.List.{length-set}
-use Rattle.kt_cuts.specs.declared.deeds.Deed.{Deed}
+use Rattle.kt_spacetime.specs.declared.deeds.Deed.{Deed}
 use Rattle.kt_walk.specs.declared.process_state.ProcessState.{ProcessState}
-use Rattle.kt_cuts.specs.Past.{Past, at_one}
+use Rattle.kt_meaning.specs.Past.{Past, at_one}
 use Rattle.kt_walk.specs.Stages.{with_permanent, with_live}
 use Rattle.kt_walk.specs.PartsOf.{ShowsProcessState, ShowsProcessStates}
-use Rattle.kt_cuts.proofs.Items.{get_set_same, get_set_other}
-use Rattle.kt_cuts.proofs.SortedFacts.{some_same}
-use Rattle.kt_cuts.proofs.Shown.{at_same, at_other}
+use Rattle.kt_meaning.proofs.Items.{get_set_same, get_set_other, some_same}
+use Rattle.kt_meaning.proofs.Shown.{at_same, at_other}
 
 -- the processes with another one at a place
 pub process_states_set : (ws : List ProcessState) (s t : Past) (p : ℕ) (v : ProcessState) → ShowsProcessStates ws s → p < 64 → ShowsProcessState v t p

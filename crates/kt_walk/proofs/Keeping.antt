@@ -3,11 +3,11 @@ use Rattle.std.specs.Prelude.{ℕ, nat_eq, Option, option_map, List}
 use Rattle.std.specs.Option.{option_flatten}
 use Rattle.std.specs.Map.{lookup}
 use Rattle.kt_spacetime.specs.declared.event.Event.{Event}
-use Rattle.kt_cuts.specs.declared.traces.Trace.{Trace}
-use Rattle.kt_cuts.specs.Past.{Past}
-use Rattle.kt_cuts.specs.Messages.{row_at}
-use Rattle.kt_cuts.specs.Standing.{parties_of_row}
-use Rattle.kt_cuts.specs.Traces.{trace_between}
+use Rattle.kt_rules.specs.declared.traces.Trace.{Trace}
+use Rattle.kt_meaning.specs.Past.{Past}
+use Rattle.kt_meaning.specs.Messages.{row_at}
+use Rattle.kt_rules.specs.Standing.{parties_of_row}
+use Rattle.kt_rules.specs.Traces.{trace_between}
 use Rattle.kt_walk.specs.Keeping.{if_kept}
 
 -- the trace that a list of messages has for a message

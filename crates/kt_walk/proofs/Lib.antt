@@ -26,3 +26,8 @@ pub mod FoundFacts
 pub mod HeldFacts
 pub mod PeersFacts
 pub mod LinkFacts
+pub mod TransitFacts
+pub mod InTransitFacts
+pub mod LastFacts
+pub mod TreeFacts
+pub mod PickFacts

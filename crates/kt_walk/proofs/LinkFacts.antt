@@ -3,8 +3,8 @@ use Rattle.std.proofs.Common.{◌≡◌, ℕ, ◌+◌, ◌*◌, ◌≤◌, ◌<�
 use Rattle.std.specs.Prelude.{IfSome}
 use Rattle.std.specs.List.{slice_get}
 use Rattle.kt_spacetime.specs.declared.event.Event.{Event}
-use Rattle.kt_cuts.specs.Past.{Past, past}
-use Rattle.kt_cuts.specs.Orphans.{IsAtMost}
+use Rattle.kt_meaning.specs.Past.{Past, past}
+use Rattle.kt_rules.specs.Orphans.{IsAtMost}
 use Rattle.kt_walk.specs.declared.queue.Arrival.{Arrival}
 use Rattle.kt_walk.specs.Arrivals.{AreRisingArrivals}
 use Rattle.kt_walk.specs.Pairs.{PairState, received_from_of, ShowsPairs}

@@ -2,15 +2,15 @@
 use Rattle.std.proofs.Common.{◌≡◌, ℕ, ◌<◌, ◌≤◌, ◌⊎◌, Option, Some, None, List, take, subst, ◌∙◌, ap, arith, inl, inr}
 use Rattle.std.specs.Prelude.{IfSome}
 use Rattle.std.specs.List.{slice_get}
-use Rattle.kt_cuts.specs.declared.deeds.Deed.{Deed}
-use Rattle.kt_cuts.specs.declared.deeds.Deed.TheVariants as deed
-use Rattle.kt_cuts.proofs.Lists.{get_take, get_in_take}
+use Rattle.kt_spacetime.specs.declared.deeds.Deed.{Deed}
+use Rattle.kt_spacetime.specs.declared.deeds.Deed.TheVariants as deed
+use Rattle.kt_meaning.proofs.Lists.{get_take, get_in_take}
 use Rattle.kt_walk.specs.declared.queue.Arrival.{Arrival}
 use Rattle.kt_walk.specs.declared.received_from.Undone.{Undone}
 use Rattle.kt_walk.specs.Arrivals.{ReceivedParts, IsReceivedFrom}
 use Rattle.kt_walk.proofs.ItemPlaces.{place_or_lacks}
-use Rattle.kt_transit.specs.LastReceived.{IsAtLeast, IsLastFrom}
-use Rattle.kt_transit.proofs.LastFacts.{IsFound, IsNoLess, last_grows}
+use Rattle.kt_walk.specs.LastReceived.{IsAtLeast, IsLastFrom}
+use Rattle.kt_walk.proofs.LastFacts.{IsFound, IsNoLess, last_grows}
 
 -- a number is the one before, or that of an arrival or of a message whose send was undone, received before a place
 abbrev pub IsOneOf : ReceivedParts → ℕ → Option ℕ → ℕ → Type 0

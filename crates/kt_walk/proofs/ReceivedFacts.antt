@@ -4,19 +4,20 @@ use Rattle.std.specs.List.{slice_get, slice_index}
 use Rattle.std.specs.Prelude.{min}
 use Rattle.std.proofs.lemmas.Bool.{cases_lt}
 use Rattle.std.proofs.lemmas.Option.{slice_get_within}
-use Rattle.kt_cuts.specs.declared.deeds.Deed.{Deed}
-use Rattle.kt_cuts.specs.declared.deeds.Deed.TheVariants as deed
+use Rattle.kt_spacetime.specs.declared.deeds.Deed.{Deed}
+use Rattle.kt_spacetime.specs.declared.deeds.Deed.TheVariants as deed
 use Rattle.kt_walk.specs.declared.queue.Arrival.{Arrival}
 use Rattle.kt_walk.specs.declared.received_from.Undone.{Undone}
-use Rattle.kt_cuts.specs.Legal.{has_deed}
-use Rattle.kt_cuts.specs.Lists.{NumbersRise, sent_in}
-use Rattle.kt_cuts.specs.Past.{Past}
-use Rattle.kt_cuts.specs.Orphans.{IsOrphanBetween, IsAtMost, earlier}
-use Rattle.kt_cuts.specs.Standing.{IsInOrder}
+use Rattle.kt_meaning.specs.Legal.{has_deed}
+use Rattle.kt_rules.specs.Lists.{NumbersRise, sent_in}
+use Rattle.kt_meaning.specs.Past.{Past}
+use Rattle.kt_rules.specs.Orphans.{IsOrphanBetween, IsAtMost, earlier}
+use Rattle.kt_rules.specs.Standing.{IsInOrder}
 use Rattle.kt_walk.specs.Arrivals.{ReceivedParts, AreRisingArrivals, PartsAt, sent_at, received_at, undone_at, undo, IsSooner, AreInTurn, IsReceivedFrom, ShowsReceived, IsUncovered}
-use Rattle.kt_cuts.proofs.Lists.{get_push, get_kept, get_last, get_take, get_in_take, get_drop}
-use Rattle.kt_cuts.proofs.DeedFacts.{has_at, has_front}
-use Rattle.kt_cuts.proofs.OrphanFacts.{get_from_drop, received_of, some_earlier, some_weaker, at_most_first, at_most_second}
+use Rattle.kt_meaning.proofs.Lists.{get_push, get_kept, get_last, get_take, get_in_take, get_drop}
+use Rattle.kt_rules.proofs.DeedFacts.{has_at, has_front}
+use Rattle.kt_meaning.proofs.Items.{get_from_drop}
+use Rattle.kt_rules.proofs.OrphanFacts.{received_of, some_earlier, some_weaker, at_most_first, at_most_second}
 use Rattle.kt_walk.proofs.ItemPlaces.{in_turn_take, in_turn_joined, in_turn_undone, get_joined, has_left, has_right, get_mapped, mapped_get, rising_take, rising_drop, rising_push, one_send, sent_before, lacks_past, lacks_part, past_it, lacks_push, place_or_lacks}
 
 -- an item is within the first so many, or past them

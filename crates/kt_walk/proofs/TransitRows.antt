@@ -3,19 +3,20 @@ use Rattle.std.proofs.Common.{◌≡◌, ◌≢◌, ℕ, ◌+◌, ◌<◌, ◌�
 use Rattle.std.specs.List.{slice_get, remove}
 use Rattle.std.proofs.lemmas.Bool.{cases_eq}
 use Rattle.std.proofs.lemmas.List.{take-append-le}
-use Rattle.kt_cuts.specs.declared.deeds.Deed.{Deed}
-use Rattle.kt_cuts.specs.declared.deeds.Deed.TheVariants as deed
-use Rattle.kt_cuts.specs.Past.{Past, at_one}
-use Rattle.kt_cuts.specs.Legal.{has_deed}
-use Rattle.kt_cuts.specs.Tests.{is_after}
-use Rattle.kt_cuts.proofs.Shown.{at_same, at_other}
-use Rattle.kt_cuts.proofs.Updates.{at_one_all}
-use Rattle.kt_cuts.proofs.Lists.{get_kept, get_last}
-use Rattle.kt_cuts.proofs.DeedFacts.{has_at, place_of_deed}
-use Rattle.kt_transit.specs.declared.in_transit.Sent.{Sent as InTransit}
-use Rattle.kt_transit.specs.LastReceived.{IsLastFrom}
-use Rattle.kt_transit.proofs.InTransitFacts.{same_away, other_deed, one_sent, one_taken}
-use Rattle.kt_transit.proofs.LastFacts.{last_received, last_stays}
+use Rattle.kt_spacetime.specs.declared.deeds.Deed.{Deed}
+use Rattle.kt_spacetime.specs.declared.deeds.Deed.TheVariants as deed
+use Rattle.kt_meaning.specs.Past.{Past, at_one}
+use Rattle.kt_meaning.specs.Legal.{has_deed}
+use Rattle.kt_rules.specs.Tests.{is_after}
+use Rattle.kt_meaning.proofs.Shown.{at_same, at_other}
+use Rattle.kt_meaning.proofs.Updates.{at_one_all}
+use Rattle.kt_meaning.proofs.Lists.{get_kept, get_last}
+use Rattle.kt_rules.proofs.DeedFacts.{has_at}
+use Rattle.kt_meaning.proofs.DeedFacts.{place_of_deed}
+use Rattle.kt_walk.specs.declared.in_transit.Sent.{Sent as InTransit}
+use Rattle.kt_walk.specs.LastReceived.{IsLastFrom}
+use Rattle.kt_walk.proofs.InTransitFacts.{same_away, other_deed, one_sent, one_taken}
+use Rattle.kt_walk.proofs.LastFacts.{last_received, last_stays}
 use Rattle.kt_walk.specs.Pairs.{PairState, IsTransit, ShowsTransit, IsFitPast, away_in}
 use Rattle.kt_walk.proofs.ItemPlaces.{lacks_push}
 use Rattle.kt_walk.proofs.PairFacts.{same_sent}

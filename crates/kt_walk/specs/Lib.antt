@@ -1,7 +1,8 @@
-pub use Rattle.kt_cuts.specs.Past
-pub use Rattle.kt_cuts.specs.Legal
-pub use Rattle.kt_cuts.specs.Cuts
-pub use Rattle.kt_cuts.specs.Traces
+pub use Rattle.kt_meaning.specs.Past
+pub use Rattle.kt_meaning.specs.Legal
+pub use Rattle.kt_meaning.specs.Cuts
+pub use Rattle.kt_rules.specs.Traces
+pub use Rattle.kt_rules.specs.Lists
 pub mod Positive
 pub mod Keeping
 pub mod DropTable
@@ -16,3 +17,6 @@ pub mod Pairs
 pub mod TraceEntries
 pub mod WalkParts
 pub mod WalkOf
+pub mod TransitList
+pub mod LastReceived
+pub mod Marks

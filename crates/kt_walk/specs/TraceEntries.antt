@@ -1,7 +1,7 @@
 -- The messages of pairs of processes, with their numbers and their traces.
 use Rattle.std.specs.Prelude.{ℕ, ◌+◌, Some, None, List, [], ◌∷◌, ◌++◌, map}
-use Rattle.kt_cuts.specs.declared.traces.Trace.{Trace}
-use Rattle.kt_transit.specs.declared.in_transit.Sent.{Sent}
+use Rattle.kt_rules.specs.declared.traces.Trace.{Trace}
+use Rattle.kt_walk.specs.declared.in_transit.Sent.{Sent}
 use Rattle.kt_walk.specs.declared.queue.Arrival.{Arrival}
 use Rattle.kt_walk.specs.declared.received_from.Undone.{Undone}
 use Rattle.kt_walk.specs.Arrivals.{ReceivedParts}

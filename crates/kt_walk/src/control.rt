@@ -5,8 +5,8 @@ ghost use Rattle.std.specs.Option.{option_copied};
 ghost use Rattle.std.specs.List.{list_all};
 ghost use Rattle.kt_spacetime.specs.declared.event.Event.{Event};
 ghost use Rattle.kt_spacetime.specs.declared.event.Event.TheVariants as event;
-ghost use Rattle.kt_cuts.specs.Past.{Past, start};
-ghost use Rattle.kt_cuts.specs.Legal.{keeps_message, is_later};
+ghost use Rattle.kt_meaning.specs.Past.{Past, start};
+ghost use Rattle.kt_meaning.specs.Legal.{keeps_message, is_later};
 ghost use Rattle.kt_walk.specs.PartsOf.{ShowsProcessStates, takes_in_transit, follows};
 
 mod decisions;
@@ -15,10 +15,10 @@ mod rows;
 use crate::drops::Drops;
 use crate::process_state::ProcessState;
 use kt_base::{InstNo, Memory, MsgNo, ProcNo};
-use kt_cuts::instances::Instance;
-use kt_cuts::rule_context::RuleContext;
-use kt_cuts::{Rule, is_after};
-use kt_spacetime::Event;
+use kt_rules::instances::Instance;
+use kt_rules::is_after;
+use kt_rules::rule_context::RuleContext;
+use kt_spacetime::{Event, Rule};
 use std::alloc::Global;
 use std::marker::Model;
 
@@ -46,10 +46,10 @@ fn initial_process_states(alloc: Global) -> Result<Vec<ProcessState>, Memory>
 impl ControlState {
     ghost use Rattle.kt_spacetime.specs.Events.{process_of};
     ghost use Rattle.kt_walk.specs.declared.process_state.ProcessState.{ProcessState};
-    ghost use Rattle.kt_cuts.specs.Past.{past};
-    ghost use Rattle.kt_cuts.specs.Legal.{broken_rule, keeps_order, is_undelivered, is_latest};
-    ghost use Rattle.kt_cuts.specs.RuleContext.{ShowsRuleContext};
-    ghost use Rattle.kt_cuts.specs.Standing.{at_number};
+    ghost use Rattle.kt_meaning.specs.Past.{past};
+    ghost use Rattle.kt_meaning.specs.Legal.{broken_rule, keeps_order, is_undelivered, is_latest};
+    ghost use Rattle.kt_rules.specs.RuleContext.{ShowsRuleContext};
+    ghost use Rattle.kt_rules.specs.Standing.{at_number};
     ghost use Rattle.kt_walk.specs.ControlOf.{ControlOf};
 
     /// What is known before the first row.

@@ -2,10 +2,10 @@
 
 ghost use Rattle.std.specs.Prelude.{◌≡◌, ◌≤◌, ◌<◌, ◌^◌, ℕ, List, nat_lt, length, slice_get, Some, None, IfSome, IfNone};
 ghost use Rattle.kt_spacetime.specs.declared.event.Event.{Event};
-ghost use Rattle.kt_cuts.specs.declared.traces.Trace.{Trace};
-ghost use Rattle.kt_cuts.specs.Past.{past};
-ghost use Rattle.kt_cuts.specs.Legal.{IsLegal};
-ghost use Rattle.kt_transit.specs.TransitList.{IsBySend};
+ghost use Rattle.kt_rules.specs.declared.traces.Trace.{Trace};
+ghost use Rattle.kt_meaning.specs.Past.{past};
+ghost use Rattle.kt_meaning.specs.Legal.{IsLegal};
+ghost use Rattle.kt_walk.specs.TransitList.{IsBySend};
 ghost use Rattle.kt_walk.specs.declared.queue.Arrival.{Arrival};
 ghost use Rattle.kt_walk.specs.declared.received_from.Undone.{Undone};
 ghost use Rattle.kt_walk.specs.Arrivals.{Has, AreRisingArrivals, PartsAt};
@@ -18,7 +18,7 @@ use crate::pairs::{Pairs, index_of};
 use crate::queue::Arrival;
 use crate::received_from::Undone;
 use kt_base::{MsgNo, ProcNo};
-use kt_cuts::Trace;
+use kt_rules::Trace;
 
 impl Pair {
     /// What is kept of a message, if there is one of this number.

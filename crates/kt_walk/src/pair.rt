@@ -1,26 +1,26 @@
 //! The messages from one process to another that can still matter.
 
 ghost use Rattle.std.specs.Prelude.{◌≡◌, ◌+◌, ◌^◌, ◌≤◌, ◌<◌, ◌++◌, ◌∷◌, [], ℕ, List, Bool, None, Some, true, length, take, remove, slice_get, slice_index, IfSome, IfNone, OnOk, OnErr};
-ghost use Rattle.kt_cuts.specs.declared.deeds.Deed.{Deed};
-ghost use Rattle.kt_cuts.specs.declared.deeds.Deed.TheVariants as deed;
-ghost use Rattle.kt_cuts.specs.Past.{Past};
-ghost use Rattle.kt_cuts.specs.Lists.{NumbersRise, sent_in};
-ghost use Rattle.kt_cuts.specs.Orphans.{IsOrphanBetween, IsAtMost};
-ghost use Rattle.kt_cuts.specs.Standing.{IsInOrder};
-ghost use Rattle.kt_transit.specs.TransitList.{AreInTransit, IsBySend};
-ghost use Rattle.kt_transit.specs.LastReceived.{IsLastFrom};
+ghost use Rattle.kt_spacetime.specs.declared.deeds.Deed.{Deed};
+ghost use Rattle.kt_spacetime.specs.declared.deeds.Deed.TheVariants as deed;
+ghost use Rattle.kt_meaning.specs.Past.{Past};
+ghost use Rattle.kt_rules.specs.Lists.{NumbersRise, sent_in};
+ghost use Rattle.kt_rules.specs.Orphans.{IsOrphanBetween, IsAtMost};
+ghost use Rattle.kt_rules.specs.Standing.{IsInOrder};
+ghost use Rattle.kt_walk.specs.TransitList.{AreInTransit, IsBySend};
+ghost use Rattle.kt_walk.specs.LastReceived.{IsLastFrom};
 ghost use Rattle.kt_walk.specs.declared.queue.Arrival.{Arrival};
 ghost use Rattle.kt_walk.specs.Searching.{IsFoundPast};
 ghost use Rattle.kt_walk.specs.Arrivals.{AreRisingArrivals, IsUncovered, ShowsReceived, cut_back};
 ghost use Rattle.kt_walk.specs.Pairs.{but_for, count_of, is_idle, IsPairCutBack, IsPairCommitted, IsPairState, IsEachOnce, AreNotDropped, Grows};
 
+use crate::in_transit::{InTransit, Sent};
 use crate::last::{last_arrival, last_undone, latest};
 use crate::opt_msg_no::OptMsgNo;
 use crate::queue::Arrival;
 use crate::received_from::{ReceivedFrom, count_received_before};
 use kt_base::{Kind, Memory, MsgNo, ProcNo, ProcSet};
-use kt_cuts::Cut;
-use kt_transit::{InTransit, Sent};
+use kt_rules::Cut;
 use std::alloc::Global;
 use std::marker::Model;
 

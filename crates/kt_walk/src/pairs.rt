@@ -2,27 +2,27 @@
 
 ghost use Rattle.std.specs.Prelude.{◌≡◌, ◌≢◌, ◌≤◌, ◌<◌, ◌+◌, ◌*◌, ◌||◌, ℕ, List, Some, true, is_some, length, map, slice_get, slice_index, OnOk, OnErr, IfOk, IfSome};
 ghost use Rattle.kt_spacetime.specs.declared.event.Event.TheVariants as event;
-ghost use Rattle.kt_cuts.specs.declared.deeds.Deed.TheVariants as deed;
-ghost use Rattle.kt_cuts.specs.Past.{Past, start, after};
+ghost use Rattle.kt_spacetime.specs.declared.deeds.Deed.TheVariants as deed;
+ghost use Rattle.kt_meaning.specs.Past.{Past, start, after};
 ghost use Rattle.std.specs.List.{list_all};
-ghost use Rattle.kt_cuts.specs.Legal.{is_undelivered, is_later};
-ghost use Rattle.kt_cuts.specs.Tests.{is_after};
-ghost use Rattle.kt_cuts.specs.Orphans.{IsOrphanBetween, IsAtMost};
-ghost use Rattle.kt_cuts.specs.Standing.{IsInOrder, IsAllowed};
-ghost use Rattle.kt_transit.specs.declared.in_transit.Sent.{Sent};
+ghost use Rattle.kt_meaning.specs.Legal.{is_undelivered, is_later};
+ghost use Rattle.kt_rules.specs.Tests.{is_after};
+ghost use Rattle.kt_rules.specs.Orphans.{IsOrphanBetween, IsAtMost};
+ghost use Rattle.kt_rules.specs.Standing.{IsInOrder, IsAllowed};
+ghost use Rattle.kt_walk.specs.declared.in_transit.Sent.{Sent};
 ghost use Rattle.kt_walk.specs.Searching.{IsFoundPast};
 ghost use Rattle.kt_walk.specs.Arrivals.{IsByPair, ShowsReceived, RollsBack, MakesPermanent, KeepsPermanent};
 ghost use Rattle.kt_base.specs.Sets.{has};
 ghost use Rattle.kt_walk.specs.Peers.{is_in};
 ghost use Rattle.kt_walk.specs.Pairs.{PairState, received_from_of, AreInUse, AreInitialPairs, IsPairCommitted, IsFitPast, IsEachOnce, AreNotDropped, ShowsPairs};
 
+use crate::in_transit::Sent;
 use crate::pair::Pair;
 use crate::peers::Peers;
 use crate::queue::Arrival;
 use kt_base::{Kind, Memory, MsgNo, ProcNo, ProcSet};
-use kt_cuts::Cut;
-use kt_cuts::orphans::earlier;
-use kt_transit::Sent;
+use kt_rules::Cut;
+use kt_rules::orphans::earlier;
 use std::alloc::Global;
 use std::marker::Model;
 

@@ -1,20 +1,20 @@
 //! The messages of one process that stand in the live history of another.
 
 ghost use Rattle.std.specs.Prelude.{◌≡◌, ◌≤◌, ◌<◌, ◌+◌, ◌-◌, ◌++◌, ◌∷◌, [], ℕ, List, true, nat_lt, length, map, take, vec_len, vec_capacity, slice_get, slice_index, Some, None, OnOk, OnErr, IfSome};
-ghost use Rattle.kt_cuts.specs.declared.deeds.Deed.{Deed};
+ghost use Rattle.kt_spacetime.specs.declared.deeds.Deed.{Deed};
 ghost use Rattle.kt_walk.specs.declared.queue.Arrival.{Arrival};
 ghost use Rattle.kt_walk.specs.declared.received_from.Undone.{Undone};
-ghost use Rattle.kt_cuts.specs.Past.{Past};
-ghost use Rattle.kt_cuts.specs.Lists.{NumbersRise, sent_in};
-ghost use Rattle.kt_cuts.specs.Orphans.{IsOrphanBetween, IsAtMost};
-ghost use Rattle.kt_cuts.specs.Standing.{IsInOrder};
+ghost use Rattle.kt_meaning.specs.Past.{Past};
+ghost use Rattle.kt_rules.specs.Lists.{NumbersRise, sent_in};
+ghost use Rattle.kt_rules.specs.Orphans.{IsOrphanBetween, IsAtMost};
+ghost use Rattle.kt_rules.specs.Standing.{IsInOrder};
 ghost use Rattle.kt_walk.specs.Searching.{IsFoundPast};
 ghost use Rattle.kt_walk.specs.Arrivals.{AreRisingArrivals, PartsAt, sent_at, received_at, undone_at, undo, AreInTurn, IsReceivedFrom, ShowsReceived, IsUncovered, is_empty};
 
 use crate::queue::{Arrival, FEW, Queue};
 use kt_base::{Memory, MsgNo, ProcNo};
-use kt_cuts::Cut;
-use kt_cuts::orphans::{earlier, if_wanted};
+use kt_rules::Cut;
+use kt_rules::orphans::{earlier, if_wanted};
 use std::alloc::Global;
 use std::marker::Model;
 

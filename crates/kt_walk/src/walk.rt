@@ -3,15 +3,15 @@
 ghost use Rattle.std.specs.Prelude.{◌≡◌, ◌<◌, ◌^◌, ◌+◌, ◌*◌, ◌++◌, ◌∷◌, ◌||◌, [], ℕ, List, length, IfOk, OnOk, OnErr, IfNone, IfSome, Err, None, Some, true, false, slice_get, slice_index, ◌≤◌};
 ghost use Rattle.kt_spacetime.specs.declared.event.Event.{Event};
 ghost use Rattle.kt_spacetime.specs.declared.event.Event.TheVariants as event;
-ghost use Rattle.kt_cuts.specs.declared.traces.Trace.{Trace};
-ghost use Rattle.kt_cuts.specs.declared.rules.Rule.{Rule};
-ghost use Rattle.kt_cuts.specs.declared.legality.LegalFault.TheVariants as fault;
-ghost use Rattle.kt_cuts.specs.Past.{past};
-ghost use Rattle.kt_cuts.specs.Legal.{IsLegal, broken_rule, first_broken};
+ghost use Rattle.kt_rules.specs.declared.traces.Trace.{Trace};
+ghost use Rattle.kt_spacetime.specs.declared.rules.Rule.{Rule};
+ghost use Rattle.kt_rules.specs.declared.legality.LegalFault.TheVariants as fault;
+ghost use Rattle.kt_meaning.specs.Past.{past};
+ghost use Rattle.kt_meaning.specs.Legal.{IsLegal, broken_rule, first_broken};
 ghost use Rattle.kt_base.specs.Sets.{has};
-ghost use Rattle.kt_cuts.specs.Cuts.{IsOrphan};
-ghost use Rattle.kt_cuts.specs.Orphans.{IsOrphanBetween};
-ghost use Rattle.kt_transit.specs.declared.in_transit.Sent.{Sent};
+ghost use Rattle.kt_meaning.specs.Cuts.{IsOrphan};
+ghost use Rattle.kt_rules.specs.Orphans.{IsOrphanBetween};
+ghost use Rattle.kt_walk.specs.declared.in_transit.Sent.{Sent};
 ghost use Rattle.kt_walk.specs.Keeping.{kept_trace, held_of};
 ghost use Rattle.kt_walk.specs.Arrivals.{KeepsPermanent};
 ghost use Rattle.kt_walk.specs.PartsOf.{takes_in_transit, follows, moves_message};
@@ -20,12 +20,12 @@ ghost use Rattle.kt_walk.specs.Searching.{IsFoundPast};
 ghost use Rattle.kt_walk.specs.WalkOf.{WalkOf, IsFoundAt};
 
 use crate::control::ControlState;
+use crate::in_transit::Sent;
 use crate::pairs::Pairs;
 use crate::queue::Arrival;
 use kt_base::{InstNo, Memory, MsgNo, ProcNo, ProcSet, RowNo};
-use kt_cuts::{Cut, LegalFault, Trace, is_after};
+use kt_rules::{Cut, LegalFault, Trace, is_after};
 use kt_spacetime::Event;
-use kt_transit::Sent;
 use std::alloc::Global;
 use std::marker::Model;
 

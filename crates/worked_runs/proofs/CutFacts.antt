@@ -3,12 +3,12 @@ use Rattle.std.proofs.Common.{◌≡◌, ◌<◌, ◌≤◌, ◌↔◌, [], ℕ,
 use Rattle.std.specs.List.{slice_index}
 use Rattle.std.proofs.lemmas.Bool.{cases_lt}
 use Rattle.kt_spacetime.specs.declared.event.Event.{Event}
-use Rattle.kt_cuts.specs.declared.deeds.Deed.{Deed}
-use Rattle.kt_cuts.specs.declared.deeds.Deed.TheVariants as deed
-use Rattle.kt_cuts.specs.Past.{Past, past}
-use Rattle.kt_cuts.specs.Legal.{has_deed}
-use Rattle.kt_cuts.specs.Cuts.{IsOrphan, IsConsistent, part, permanent_cut}
-use Rattle.kt_cuts.proofs.OrphanFacts.{between_of, orphan_of}
+use Rattle.kt_spacetime.specs.declared.deeds.Deed.{Deed}
+use Rattle.kt_spacetime.specs.declared.deeds.Deed.TheVariants as deed
+use Rattle.kt_meaning.specs.Past.{Past, past}
+use Rattle.kt_meaning.specs.Legal.{has_deed}
+use Rattle.kt_meaning.specs.Cuts.{IsOrphan, IsConsistent, part, permanent_cut}
+use Rattle.kt_rules.proofs.OrphanFacts.{between_of, orphan_of}
 use Rattle.kt_walk.specs.Arrivals.{KeepsPermanent}
 use Rattle.kt_walk.specs.WalkOf.{WalkOf}
 use Rattle.kt_walk.specs.WalkParts.{WalkParts}

@@ -2,10 +2,10 @@
 use Rattle.std.proofs.Common.{◌≡◌, ◌↔◌, ℕ, Bool, IsTrue, List, Option, Some, None, IfSome}
 use Rattle.kt_spacetime.specs.declared.event.Event.{Event}
 use Rattle.kt_log_text.specs.Texts.{IsLogText}
-use Rattle.kt_chain.specs.declared.certificate.Certificate.{Certificate}
-use Rattle.kt_checker.specs.Passing.{IsPassed}
-use Rattle.kt_checker.specs.declared.verdict.Verdict.{Verdict}
-use Rattle.kt_checker.specs.declared.verdict.Verdict.TheVariants.{Yes}
+use Rattle.kt_spacetime.specs.declared.certificate.Certificate.{Certificate}
+use Rattle.kt_meaning.specs.Passing.{IsPassed}
+use Rattle.kt_spacetime.specs.declared.verdict.Verdict.{Verdict}
+use Rattle.kt_spacetime.specs.declared.verdict.Verdict.TheVariants.{Yes}
 
 pub passes_if_yes : (left : Option (List (List (List ℕ)))) (certificates : List Certificate) (verdict : Verdict) (answer : Bool) → (IsTrue answer ↔ (verdict ≡ Yes))
     → IfSome left (λ records. (rows : List Event) → IsLogText records rows → (verdict ≡ Yes) ↔ IsPassed rows certificates)

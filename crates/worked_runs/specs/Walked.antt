@@ -1,7 +1,7 @@
 -- A stored log that a walk was fed.
 use Rattle.std.specs.Prelude.{ℕ, List, Option}
 use Rattle.kt_spacetime.specs.declared.event.Event.{Event}
-use Rattle.kt_cuts.specs.Legal.{IsLegal}
+use Rattle.kt_meaning.specs.Legal.{IsLegal}
 use Rattle.kt_checker.specs.Streamed.{SaysRows}
 use Rattle.kt_walk.specs.WalkOf.{WalkOf}
 use Rattle.kt_walk.specs.WalkParts.{WalkParts}

@@ -6,11 +6,11 @@
 
 use crate::commands::{Host, stored, value_of};
 use crate::texts::HEADER;
-use kt_chain::{Certificate, read_certs};
+use kt_chain::read_certs;
 use kt_checker::check;
 use kt_log_text::read_csv;
 use kt_program::{Done, ProgramFault, check_bytes, end};
-use kt_spacetime::SpaceTime;
+use kt_spacetime::{Certificate, SpaceTime};
 use std::alloc::Global;
 use std::io::{Read, Write};
 use std::{fs, io};

@@ -3,8 +3,8 @@
 use crate::commands::Host;
 use kt_base::RowNo;
 use kt_certify::certify;
-use kt_checker::{Verdict, check};
-use kt_spacetime::{Event, SpaceTime};
+use kt_checker::check;
+use kt_spacetime::{Event, SpaceTime, Verdict};
 use std::io;
 
 // Adds a row to a log; whether there was room.

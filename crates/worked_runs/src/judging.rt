@@ -4,20 +4,20 @@ ghost use Rattle.std.specs.Prelude.{◌≡◌, ◌<◌, ◌↔◌, [], ℕ, List
 ghost use Rattle.kt_spacetime.specs.declared.event.Event.{Event};
 ghost use Rattle.kt_log_text.specs.Reading.{rows_unread};
 ghost use Rattle.kt_log_text.specs.Texts.{IsLogText};
-ghost use Rattle.kt_cuts.specs.Past.{past};
-ghost use Rattle.kt_cuts.specs.Cuts.{IsOrphan, IsConsistent, permanent_cut};
+ghost use Rattle.kt_meaning.specs.Past.{past};
+ghost use Rattle.kt_meaning.specs.Cuts.{IsOrphan, IsConsistent, permanent_cut};
 ghost use Rattle.kt_walk.specs.WalkOf.{WalkOf};
-ghost use Rattle.kt_checker.specs.Passing.{IsPassed};
+ghost use Rattle.kt_meaning.specs.Passing.{IsPassed};
 ghost use Rattle.worked_runs.specs.Walked.{IsWalkedText};
 
 use crate::commands::{Host, value_of};
 use anyhow::Result;
 use kt_base::{Memory, MsgNo, ProcNo};
-use kt_chain::{Certificate, read_certs};
-use kt_checker::{Verdict, check, check_stream};
-use kt_cuts::Cut;
+use kt_chain::read_certs;
+use kt_checker::{check, check_stream};
 use kt_log_text::RowReader;
-use kt_spacetime::SpaceTime;
+use kt_rules::Cut;
+use kt_spacetime::{Certificate, SpaceTime, Verdict};
 use kt_walk::Walk;
 use std::alloc::Global;
 use std::io::Read;

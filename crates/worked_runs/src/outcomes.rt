@@ -1,9 +1,8 @@
 //! What is left of a run, shown.
 
 use crate::commands::{Host, value_of};
-use kt_held::Held;
 use kt_log_text::write_csv;
-use kt_object::SlotBook;
+use kt_object::{Held, SlotBook};
 use kt_plan::{Act, Look, Step, Told};
 use kt_run::Outcome;
 use std::io;

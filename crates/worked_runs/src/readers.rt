@@ -2,8 +2,8 @@
 
 use crate::commands::value_of;
 use kt_base::{InstNo, MsgNo, ProcNo};
-use kt_cuts::Cut;
 use kt_histories::{Histories, legal};
+use kt_rules::Cut;
 use kt_spacetime::SpaceTime;
 use kt_walk::Walk;
 use std::alloc::Global;

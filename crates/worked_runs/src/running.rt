@@ -1,13 +1,12 @@
 //! Runs over objects of one's own, one step after another and in threads.
 
-ghost use Rattle.kt_plans.specs.Headline.{IsCertified};
+ghost use Rattle.kt_meaning.specs.Promised.{IsCertified};
 
 use crate::commands::{Host, value_of};
 use crate::counter::{Count, Counter};
 use crate::stepping::show_log;
 use kt_base::Memory;
-use kt_held::{Cast, Held};
-use kt_object::{Object, SlotBook};
+use kt_object::{Cast, Held, Object, SlotBook};
 use kt_plan::{Look, Plan, Told};
 use kt_program::cast_of;
 use kt_run::{Outcome, run};

@@ -2,18 +2,18 @@
 
 ghost use Rattle.std.specs.Prelude.{◌≡◌, ◌≢◌, ◌↔◌, true, IfOk, IfErr, IsTrue};
 ghost use Rattle.kt_core.specs.Worlds.{IsWorldAtRest};
-ghost use Rattle.kt_plans.specs.Headline.{IsCertified};
+ghost use Rattle.kt_meaning.specs.Promised.{IsCertified};
 
 use crate::commands::{Host, value_of};
 use crate::judging::log_passes;
 use anyhow::{Result, ensure};
 use kt_base::ProcNo;
-use kt_certify::{CertFault, certify};
+use kt_certify::certify;
 use kt_core::{StepFault, World};
 use kt_log_text::read_csv;
 use kt_plan::{Give, Look, Plan, Step};
 use kt_scenario::{parse, parse_steps};
-use kt_spacetime::{Event, SpaceTime};
+use kt_spacetime::{CertFault, Event, SpaceTime};
 use kt_threads::State;
 use std::alloc::Global;
 use std::{fs, io};

@@ -4,10 +4,10 @@ ghost use Rattle.std.specs.Prelude.{All};
 ghost use Rattle.kt_chain.specs.Spelling.{HasShortChains};
 
 use crate::commands::{Host, value_of};
-use kt_chain::{Certificate, read_certs, write_certs};
+use kt_chain::{read_certs, write_certs};
 use kt_log_text::write_csv;
 use kt_program::check_bytes;
-use kt_spacetime::SpaceTime;
+use kt_spacetime::{Certificate, SpaceTime};
 use std::alloc::Global;
 use std::io;
 

@@ -4,7 +4,7 @@ ghost use Rattle.std.specs.Prelude.{◌≡◌, ◌<◌, ◌≤◌, ℕ, true, fa
 ghost use Rattle.kt_core.specs.Choices.{choices, enabled_steps, steps_of, HasTakesAlone, HasNoOthers, AreMovers};
 ghost use Rattle.kt_core.specs.Shown.{Mirrors};
 ghost use Rattle.kt_core.specs.Worlds.{can_make};
-ghost use Rattle.kt_plans.specs.Progress.{Progress};
+ghost use Rattle.kt_promises.specs.Progress.{Progress};
 
 use super::World;
 use crate::laws::laws_of_runs;

@@ -4,14 +4,14 @@ ghost use Rattle.std.specs.Prelude.{◌≡◌, ◌<◌, ◌≤◌, ◌+◌, ◌^
 ghost use Rattle.kt_plan.specs.Limits.{IsJobOf};
 ghost use Rattle.kt_process.specs.ProcessStates.{inst_of};
 ghost use Rattle.kt_tables.specs.Calls.{Speaks};
-ghost use Rattle.kt_seen.specs.Seen.{Seen};
-ghost use Rattle.kt_seen.specs.Transition.{transition};
+ghost use Rattle.kt_machine.specs.Seen.{Seen};
+ghost use Rattle.kt_machine.specs.Transition.{transition};
 ghost use Rattle.kt_system.specs.Systems.{state_of, IsSameSystem, LogGrows};
 ghost use Rattle.kt_system.specs.Shown.{ShowsState};
 ghost use Rattle.kt_system.specs.ShownActs.{acts_shown};
 ghost use Rattle.kt_system.specs.Tallies.{TalliesPut};
-ghost use Rattle.kt_values.specs.SeenActs.{seen_acts};
-ghost use Rattle.kt_plans.specs.Steps.{protocol_step};
+ghost use Rattle.kt_machine.specs.SeenActs.{seen_acts};
+ghost use Rattle.kt_promises.specs.Steps.{protocol_step};
 ghost use Rattle.kt_core.specs.Agendas.{agenda_place};
 ghost use Rattle.kt_core.specs.Making.{KeepsPlan, MakesStep};
 ghost use Rattle.kt_core.specs.Worlds.{step_refusal, is_send, IsSameWorld};

@@ -3,14 +3,14 @@
 ghost use Rattle.std.specs.Prelude.{◌≡◌, ◌↔◌, ℕ, Some, None, true, false};
 ghost use Rattle.kt_core.specs.Shown.{Mirrors};
 ghost use Rattle.kt_core.specs.Worlds.{can_make};
-ghost use Rattle.kt_plans.specs.Hindrances.{hindrance};
-ghost use Rattle.kt_plans.specs.Progress.{Progress};
+ghost use Rattle.kt_promises.specs.Hindrances.{hindrance};
+ghost use Rattle.kt_promises.specs.Progress.{Progress};
 
 use super::World;
 use crate::laws::laws_of_runs;
 use kt_base::ProcNo;
 use kt_plan::Step;
-use kt_plans::Hindrance;
+use kt_promises::Hindrance;
 
 impl World {
     /// What stands in the way of a step, where it can't be made.

@@ -2,13 +2,13 @@
 
 ghost use Rattle.std.specs.Prelude.{◌≡◌, ◌<◌, ◌+◌, ◌↔◌, ℕ, true, false, Some, None, IsTrue, is_some, IfSome, IfNone, OnOk, IfOk, IfErr};
 ghost use Rattle.kt_core.specs.Worlds.{process_may_do, can_make, can_do, needs, needs_of_step, needs_of_command, step_refusal, is_full, sends_unlabelled, is_send, IsWorldAtRest, IsNextDo, IsFirstBelow, IsDefaultStep, IsNextStepOf};
-ghost use Rattle.kt_plans.specs.Steps.{process_of_step, enabled, is_at_rest};
+ghost use Rattle.kt_promises.specs.Steps.{process_of_step, enabled, is_at_rest};
 ghost use Rattle.kt_system.specs.Systems.{state_of};
 ghost use Rattle.std.specs.Option.{option_map};
-ghost use Rattle.kt_plans.specs.Follows.{FollowsPlan};
-ghost use Rattle.kt_plans.specs.Progress.{Progress};
-ghost use Rattle.kt_plans.specs.Looks.{look};
-ghost use Rattle.kt_plans.specs.Defaults.{default_step};
+ghost use Rattle.kt_meaning.specs.Follows.{FollowsPlan};
+ghost use Rattle.kt_promises.specs.Progress.{Progress};
+ghost use Rattle.kt_promises.specs.Looks.{look};
+ghost use Rattle.kt_promises.specs.Defaults.{default_step};
 ghost use Rattle.kt_core.specs.Agendas.{open_command};
 ghost use Rattle.kt_core.specs.Choices.{HasNoOthers};
 ghost use Rattle.kt_core.specs.Looked.{TellsOfStep};
@@ -269,7 +269,7 @@ impl World {
         // is decided, no process is in one, and no message is in transit.
         ensures follows { IsTrue result → FollowsPlan self.now.agenda.plan self.now.system.rows.rows }
     {
-        kt_plans::logs_follow_plans();
+        kt_promises::logs_follow_plans();
         laws_of_runs();
         self.agenda.is_done() && self.system.is_quiet()
     }

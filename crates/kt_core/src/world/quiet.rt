@@ -1,8 +1,8 @@
 //! Steps that need nothing of their process's object, and ask nothing of it.
 
 ghost use Rattle.std.specs.Prelude.{◌≡◌, ◌∷◌, [], ℕ, true, false, None, IfOk, OnErr};
-ghost use Rattle.kt_plans.specs.Looks.{look};
-ghost use Rattle.kt_plans.specs.Progress.{Progress};
+ghost use Rattle.kt_promises.specs.Looks.{look};
+ghost use Rattle.kt_promises.specs.Progress.{Progress};
 ghost use Rattle.kt_core.specs.Making.{KeepsPlan, MakesStep};
 ghost use Rattle.kt_core.specs.Shown.{Mirrors};
 ghost use Rattle.kt_core.specs.Worlds.{can_make, needs, step_refusal, IsSameWorld};

@@ -3,8 +3,8 @@
 ghost use Rattle.std.specs.Prelude.{◌≡◌, ◌⊎◌, ◌<◌, ◌≤◌, ◌+◌, ◌^◌, ℕ, Some, None, Err, IfSome, IfOk, IfErr, OnOk, OnErr, drop, length, slice_get};
 ghost use Rattle.kt_process.specs.ProcessStates.{part_of_side, IsNumbered};
 ghost use Rattle.kt_system.specs.Systems.{state_of};
-ghost use Rattle.kt_plans.specs.Progress.{Progress};
-ghost use Rattle.kt_plans.specs.Rows.{AreRowsOfStep};
+ghost use Rattle.kt_promises.specs.Progress.{Progress};
+ghost use Rattle.kt_promises.specs.Rows.{AreRowsOfStep};
 ghost use Rattle.kt_core.specs.Making.{KeepsPlan, MakesStep};
 ghost use Rattle.kt_core.specs.Worlds.{step_refusal, IsSameWorld, SettlesIn, numbered_row};
 ghost use Rattle.kt_core.specs.Ready.{IsReady};

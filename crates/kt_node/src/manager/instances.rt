@@ -3,9 +3,9 @@
 ghost use Rattle.std.specs.Prelude.{◌≡◌, ◌<◌, ◌+◌, ◌^◌, ℕ, true, Bool, Some, None, [], ◌∷◌, ◌++◌, IfOk, OnOk, OnErr};
 ghost use Rattle.kt_base.specs.Sets.{has};
 ghost use Rattle.kt_base.specs.declared.words.Kind.TheVariants as kind;
-ghost use Rattle.kt_cuts.specs.Past.{is_rollback_kind};
+ghost use Rattle.kt_meaning.specs.Past.{is_rollback_kind};
 ghost use Rattle.kt_tables.specs.Peers.{IsCohort};
-ghost use Rattle.kt_values.specs.Values.{closing as acts_of_closing};
+ghost use Rattle.kt_machine.specs.Values.{closing as acts_of_closing};
 ghost use Rattle.kt_process.specs.ProcessStates.{is_ready};
 ghost use Rattle.kt_process.specs.Shown.{IsSeenAs, BeginsAs, HearsAs, goes_on};
 ghost use Rattle.kt_net.specs.Nodes.{NodeState, Begin, nothing};
@@ -25,11 +25,11 @@ use super::{Manager, here};
 use crate::effects::{Effects, NO_ACTS, Parcels};
 use crate::faults::ManagerFault;
 use kt_base::{Cause, Kind, Label, Memory, ProcNo, ProcSet, Verb};
-use kt_lists::{make_room_back, marks_of, restore, trim};
-use kt_names::{Count, InstName, NamedCause, NamedEvent};
 use kt_net::NodeParcel;
-use kt_parts::{Action, Asks, Then};
 use kt_plan::Act;
+use kt_process::{Action, Asks, Then};
+use kt_spacetime::{Count, InstName, NamedCause, NamedEvent};
+use kt_system::{make_room_back, marks_of, restore, trim};
 use std::alloc::Global;
 
 /// What is asked: whether a process takes part in an instance of a kind, with the label that this turns on.

@@ -19,9 +19,9 @@ use crate::effects::{Effects, NO_ACTS, Parcels};
 use crate::faults::ManagerFault;
 use kt_base::{Label, Memory, MsgNo, ProcNo, Verb};
 use kt_fifo::Parcel;
-use kt_names::{Count, NamedCause, NamedEvent};
 use kt_net::NodeParcel;
 use kt_plan::Act;
+use kt_spacetime::{Count, NamedCause, NamedEvent};
 
 impl Manager {
     /// It sends a message to another process; where its object is down, it refuses.

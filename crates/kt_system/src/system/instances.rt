@@ -7,22 +7,23 @@ ghost use Rattle.kt_system.specs.Systems.{state_of, room_to, HasBack, CanJoin, C
 ghost use Rattle.std.specs.Prelude.{Bool, [], ◌++◌};
 ghost use Rattle.kt_fifo.specs.declared.parcels.Parcel.TheVariants as parcel;
 ghost use Rattle.kt_tables.specs.Peers.{IsCohort};
-ghost use Rattle.kt_seen.specs.Seen.{Seen};
-ghost use Rattle.kt_seen.specs.ListChanges.{with_parcel, with_decisions, with_asks_where};
-ghost use Rattle.kt_seen.specs.SeenClosing.{seen_deciding, seen_closing};
+ghost use Rattle.kt_machine.specs.Seen.{Seen};
+ghost use Rattle.kt_machine.specs.ListChanges.{with_parcel, with_decisions, with_asks_where};
+ghost use Rattle.kt_machine.specs.SeenClosing.{seen_deciding, seen_closing};
 ghost use Rattle.kt_process.specs.Shown.{goes_on};
-ghost use Rattle.kt_values.specs.Values.{closing};
+ghost use Rattle.kt_machine.specs.Values.{closing};
 ghost use Rattle.kt_system.specs.Shown.{ShowsState, IsInside, lists_closed, joined_row, asking_and_settling};
 ghost use Rattle.kt_system.specs.ShownActs.{act_shown, acts_shown, acts_joining, acts_going_on};
 ghost use Rattle.kt_system.specs.Tallies.{TalliesPut};
 ghost use Rattle.kt_system.specs.Keeps.{KeepsInPart};
 
 use super::System;
+use crate::kept::{restore, trim};
+use crate::puts::{put_asks, put_decisions};
 use kt_base::{InstNo, Kind, ProcNo, ProcSet};
 use kt_fifo::Parcel;
-use kt_lists::{put_asks, put_decisions, restore, trim};
-use kt_parts::{Asks, Then};
 use kt_plan::Act;
+use kt_process::{Asks, Then};
 use kt_spacetime::Event;
 
 impl System {

@@ -6,15 +6,15 @@ ghost use Rattle.kt_process.specs.ProcessStates.{is_ready};
 ghost use Rattle.kt_system.specs.Systems.{state_of, room_to, HasBack, HasRoomFor, KeepsParcels, KeepsStates, KeepsRoom, GivesRoom, IsSameSystem};
 ghost use Rattle.std.specs.Prelude.{drop};
 ghost use Rattle.kt_fifo.specs.Channels.{channel};
-ghost use Rattle.kt_seen.specs.Seen.{Seen};
-ghost use Rattle.kt_seen.specs.ListChanges.{with_parcel, with_rest};
+ghost use Rattle.kt_machine.specs.Seen.{Seen};
+ghost use Rattle.kt_machine.specs.ListChanges.{with_parcel, with_rest};
 ghost use Rattle.kt_system.specs.Shown.{ShowsState, with_row};
 ghost use Rattle.kt_system.specs.Tallies.{TalliesPut, AreCounted, front};
 
 use super::System;
+use crate::rooms::{make_room, make_room_back, make_room_to};
 use kt_base::{InstNo, Memory, ProcNo, ProcSet};
 use kt_fifo::Parcel;
-use kt_lists::{make_room, make_room_back, make_room_to};
 use kt_spacetime::Event;
 
 impl System {

@@ -6,11 +6,11 @@ ghost use Rattle.std.specs.Prelude.{[], ◌∷◌, ◌++◌, false, drop, OnOk, 
 ghost use Rattle.kt_fifo.specs.declared.parcels.Parcel.TheVariants as parcel;
 ghost use Rattle.kt_tables.specs.Calls.{received, Speaks};
 ghost use Rattle.kt_protocol.specs.States.{Send as SendStep, Fail as FailStep};
-ghost use Rattle.kt_seen.specs.Seen.{Seen};
-ghost use Rattle.kt_seen.specs.ListChanges.{with_rest};
-ghost use Rattle.kt_seen.specs.SeenMessages.{seen_refusal, seen_arrival, seen_holding};
-ghost use Rattle.kt_seen.specs.Transition.{transition, is_seen_ready};
-ghost use Rattle.kt_values.specs.SeenActs.{seen_acts, seen_acts_arriving};
+ghost use Rattle.kt_machine.specs.Seen.{Seen};
+ghost use Rattle.kt_machine.specs.ListChanges.{with_rest};
+ghost use Rattle.kt_machine.specs.SeenMessages.{seen_refusal, seen_arrival, seen_holding};
+ghost use Rattle.kt_machine.specs.Transition.{transition, is_seen_ready};
+ghost use Rattle.kt_machine.specs.SeenActs.{seen_acts, seen_acts_arriving};
 ghost use Rattle.kt_system.specs.Shown.{ShowsState, channel_without, held_without};
 ghost use Rattle.kt_system.specs.ShownActs.{acts_shown};
 ghost use Rattle.kt_system.specs.Tallies.{TalliesPut, front};

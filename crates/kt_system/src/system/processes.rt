@@ -4,21 +4,20 @@ ghost use Rattle.std.specs.Prelude.{◌≡◌, ◌<◌, ◌+◌, ◌-◌, ◌^�
 ghost use Rattle.std.specs.Option.{option_map};
 ghost use Rattle.kt_base.specs.Sets.{has};
 ghost use Rattle.kt_base.specs.declared.words.Kind.TheVariants as kind;
-ghost use Rattle.kt_parts.specs.Replies.{IsReplyTo};
-ghost use Rattle.kt_parts.specs.Rules.{after_reply};
+ghost use Rattle.kt_process.specs.Replies.{IsReplyTo};
+ghost use Rattle.kt_process.specs.PartRules.{after_reply};
 ghost use Rattle.kt_process.specs.Turns.{joins_by, reply_of, IsBegin, IsHeard};
 ghost use Rattle.kt_system.specs.Systems.{state_of};
 ghost use Rattle.std.specs.Prelude.{[], ◌∷◌, ◌++◌, None, false};
 ghost use Rattle.kt_tables.specs.Calls.{sent, received, Speaks};
-ghost use Rattle.kt_seen.specs.Seen.{Seen};
+ghost use Rattle.kt_machine.specs.Seen.{Seen};
 ghost use Rattle.kt_process.specs.ProcessStates.{part_of_side, is_ready, inst_of, asked_of};
 ghost use Rattle.kt_process.specs.Shown.{IsSeenAs, BeginsAs, HearsAs, counted_as, closed_as, mark_of, no_mark};
 ghost use Rattle.kt_system.specs.Shown.{ShowsState, IsTurned};
 
 use super::System;
 use kt_base::{InstNo, Label, Memory, ProcNo, ProcSet};
-use kt_parts::Action;
-use kt_process::Process;
+use kt_process::{Action, Process};
 
 impl System {
     /// A process.

@@ -2,9 +2,9 @@
 
 ghost use Rattle.std.specs.Prelude.{◌≡◌, true, false, [], OnErr, IfOk};
 ghost use Rattle.kt_protocol.specs.States.{Take as TakeStep};
-ghost use Rattle.kt_seen.specs.Seen.{Seen};
-ghost use Rattle.kt_seen.specs.Transition.{transition};
-ghost use Rattle.kt_values.specs.SeenActs.{seen_acts};
+ghost use Rattle.kt_machine.specs.Seen.{Seen};
+ghost use Rattle.kt_machine.specs.Transition.{transition};
+ghost use Rattle.kt_machine.specs.SeenActs.{seen_acts};
 ghost use Rattle.kt_system.specs.Keeps.{CanStep};
 ghost use Rattle.kt_system.specs.Reads.{would_save};
 ghost use Rattle.kt_system.specs.Shown.{ShowsState};

@@ -5,11 +5,11 @@ ghost use Rattle.kt_system.specs.Systems.{state_of, CanGoOn};
 ghost use Rattle.std.specs.Prelude.{Bool, [], drop, OnOk, ◌==◌, ◌∷◌};
 ghost use Rattle.kt_tables.specs.Calls.{Speaks};
 ghost use Rattle.kt_protocol.specs.States.{Take as TakeStep};
-ghost use Rattle.kt_seen.specs.Transition.{transition, seen_front, seen_take};
-ghost use Rattle.kt_parts.specs.declared.actions.Action.TheVariants as what;
-ghost use Rattle.kt_seen.specs.Seen.{Seen};
+ghost use Rattle.kt_machine.specs.Transition.{transition, seen_front, seen_take};
+ghost use Rattle.kt_process.specs.declared.actions.Action.TheVariants as what;
+ghost use Rattle.kt_machine.specs.Seen.{Seen};
 ghost use Rattle.kt_process.specs.ProcessStates.{is_ready};
-ghost use Rattle.kt_values.specs.SeenActs.{seen_acts, seen_acts_replied, seen_acts_decided, seen_acts_taking, seen_acts_taking_held};
+ghost use Rattle.kt_machine.specs.SeenActs.{seen_acts, seen_acts_replied, seen_acts_decided, seen_acts_taking, seen_acts_taking_held};
 ghost use Rattle.kt_system.specs.Shown.{ShowsState, IsInside, gone_on, after_reply_taken, after_decision_taken};
 ghost use Rattle.kt_system.specs.ShownActs.{acts_shown, acts_gone_on};
 ghost use Rattle.kt_system.specs.Tallies.{front, taken_off};
@@ -19,8 +19,8 @@ use super::System;
 use super::messages::{Message, NO_ACTS};
 use kt_base::{InstNo, Memory, ProcNo};
 use kt_fifo::Parcel;
-use kt_parts::Action;
 use kt_plan::Act;
+use kt_process::Action;
 use std::alloc::Global;
 
 impl System {

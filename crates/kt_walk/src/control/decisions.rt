@@ -7,11 +7,11 @@ ghost use Rattle.kt_spacetime.specs.declared.event.Event.TheVariants as event;
 use super::ControlState;
 use crate::pairs::Pairs;
 use kt_base::{InstNo, Kind, ProcNo};
-use kt_cuts::instances::{Instance, decide};
+use kt_rules::instances::{Instance, decide};
 
 impl ControlState {
-    ghost use Rattle.kt_cuts.specs.Past.{Past, past, at_one};
-    ghost use Rattle.kt_cuts.specs.Legal.{broken_rule};
+    ghost use Rattle.kt_meaning.specs.Past.{Past, past, at_one};
+    ghost use Rattle.kt_meaning.specs.Legal.{broken_rule};
     ghost use Rattle.kt_walk.specs.Pairs.{ShowsPairs};
     ghost use Rattle.kt_walk.specs.PartsOf.{ShowsProcessStates};
     ghost use Rattle.kt_walk.specs.ControlOf.{ControlOf, KeepsRest};

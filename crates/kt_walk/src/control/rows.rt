@@ -6,13 +6,13 @@ ghost use Rattle.kt_spacetime.specs.declared.event.Event.TheVariants as event;
 
 use super::ControlState;
 use kt_base::{InstNo, Kind, Memory, MsgNo, ProcNo, ProcSet};
-use kt_cuts::instances::{Instance, join};
+use kt_rules::instances::{Instance, join};
 use kt_spacetime::Event;
 
 impl ControlState {
-    ghost use Rattle.kt_cuts.specs.Past.{past};
-    ghost use Rattle.kt_cuts.specs.Legal.{broken_rule};
-    ghost use Rattle.kt_cuts.specs.Standing.{at_number, rolled_back_shown};
+    ghost use Rattle.kt_meaning.specs.Past.{past};
+    ghost use Rattle.kt_meaning.specs.Legal.{broken_rule};
+    ghost use Rattle.kt_rules.specs.Standing.{at_number, rolled_back_shown};
     ghost use Rattle.kt_walk.specs.PartsOf.{is_plain};
     ghost use Rattle.kt_walk.specs.ControlOf.{ControlOf, parts_of};
 

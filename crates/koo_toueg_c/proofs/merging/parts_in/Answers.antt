@@ -1,7 +1,7 @@
 use Rattle.std.proofs.Common.{◌≡◌, ◌∙◌, ℕ, List, [], Some, get_or, length, map, subst, sym, ap, arith, length-append}
 use Rattle.std.specs.Prelude.{option_map, slice_get}
 use Rattle.std.proofs.lemmas.Option.{slice_get-get_or, slice_get-map}
-use Rattle.kt_part_text.specs.Reading.{PartRead}
+use Rattle.kt_merge.specs.Reading.{PartRead}
 use Rattle.koo_toueg_c.specs.Merged.{IsReaderOf}
 use Rattle.koo_toueg_c.proofs.PartReaders.{reader_push}
 use Rattle.koo_toueg_c.proofs.merging.parts_in.Goals as goal

@@ -1,7 +1,7 @@
 use Rattle.std.proofs.Common.{◌≡◌, ℕ, Some, length, map}
 use Rattle.std.specs.Prelude.{slice_get}
 use Rattle.kt_merge.specs.Merging.{ArePartsUnread}
-use Rattle.kt_part_text.specs.Reading.{PartRead}
+use Rattle.kt_merge.specs.Reading.{PartRead}
 use Rattle.koo_toueg_c.specs.Merged.{IsReaderOf}
 use Rattle.koo_toueg_c.proofs.merging.parts_in.Given as goal
 

@@ -1,6 +1,6 @@
 use Rattle.std.proofs.Common.{◌≡◌, Bool, List, rules, subst}
-use Rattle.kt_chain.specs.declared.certificate.Certificate.{Certificate}
-use Rattle.kt_checker.specs.Order.{IsCheckerAnswer}
+use Rattle.kt_spacetime.specs.declared.certificate.Certificate.{Certificate}
+use Rattle.kt_meaning.specs.Answers.{IsCheckerAnswer}
 use Rattle.koo_toueg_c.specs.Numbers.{answer_status}
 use Rattle.koo_toueg_c.proofs.texts.explained_run.Goals as goal
 

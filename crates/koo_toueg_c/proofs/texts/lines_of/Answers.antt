@@ -1,6 +1,6 @@
 use Rattle.std.proofs.Common.{List, sym, subst}
-use Rattle.kt_chain.specs.declared.certificate.Certificate.{Certificate}
-use Rattle.kt_checker.specs.Order.{IsCheckerAnswer}
+use Rattle.kt_spacetime.specs.declared.certificate.Certificate.{Certificate}
+use Rattle.kt_meaning.specs.Answers.{IsCheckerAnswer}
 use Rattle.koo_toueg_c.proofs.texts.lines_of.Goals as goal
 
 pub explain-requires : goal.explain-requires

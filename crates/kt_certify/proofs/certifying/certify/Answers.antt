@@ -1,7 +1,7 @@
 use Rattle.std.proofs.Common.{◌+◌, take, refl, sym, subst, arith, length-take, ◌∙◌}
 use Rattle.std.proofs.lemmas.List.{take_all}
-use Rattle.kt_cuts.proofs.Items.{take_item}
-use Rattle.kt_cuts.proofs.Replayed.{row_read}
+use Rattle.kt_meaning.proofs.Items.{take_item}
+use Rattle.kt_rules.proofs.Replayed.{row_read}
 use Rattle.kt_certify.specs.PassOf.{PassOf}
 use Rattle.kt_certify.proofs.Fit.{fit_so_far}
 use Rattle.kt_certify.proofs.Meant.{all_meant}

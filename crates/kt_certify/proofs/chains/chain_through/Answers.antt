@@ -1,8 +1,8 @@
 use Rattle.std.proofs.Common.{ℕ, Some, List, length, refl, sym, ap, ◌∙◌}
 use Rattle.std.proofs.lemmas.Option.{slice_get_read}
-use Rattle.kt_cuts.specs.Past.{past}
-use Rattle.kt_certify.specs.Linking.{least_link}
-use Rattle.kt_certify.proofs.Through.{goes_through}
+use Rattle.kt_meaning.specs.Past.{past}
+use Rattle.kt_meaning.specs.Linking.{least_link}
+use Rattle.kt_meaning.proofs.Through.{goes_through}
 use Rattle.kt_certify.proofs.chains.chain_through.Goals as goal
 
 pub returns-in-Some : goal.returns-in-Some

@@ -1,8 +1,8 @@
 use Rattle.std.proofs.Common.{◌≡◌, List, drop}
 use Rattle.kt_spacetime.specs.declared.event.Event.{Event}
-use Rattle.kt_cuts.specs.Past.{past}
+use Rattle.kt_meaning.specs.Past.{past}
 use Rattle.kt_walk.specs.WalkOf.{WalkOf}
-use Rattle.kt_certify.specs.Linking.{least_link, chain_through}
+use Rattle.kt_meaning.specs.Linking.{least_link, chain_through}
 use Rattle.kt_certify.proofs.chains.chain_through.Given as goal
 
 abbrev pub invariant-loop-q : goal.invariant-loop-q

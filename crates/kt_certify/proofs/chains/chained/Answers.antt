@@ -1,6 +1,6 @@
 use Rattle.std.proofs.Common.{length, refl}
 use Rattle.std.proofs.lemmas.Option.{slice_get_read}
-use Rattle.kt_certify.proofs.Chained.{one_more, all_more}
+use Rattle.kt_meaning.proofs.Chained.{one_more, all_more}
 use Rattle.kt_certify.proofs.chains.chained.Goals as goal
 
 pub loop-p-preserved : goal.loop-p-preserved

@@ -1,9 +1,8 @@
 use Rattle.std.proofs.Common.{◌≡◌, List, take}
 use Rattle.kt_spacetime.specs.declared.event.Event.{Event}
-use Rattle.kt_cuts.specs.Past.{past}
+use Rattle.kt_meaning.specs.Past.{past}
 use Rattle.kt_walk.specs.WalkOf.{WalkOf}
-use Rattle.kt_certify.specs.Linking.{chained}
-use Rattle.kt_certify.specs.Stops.{AreChainedTo}
+use Rattle.kt_meaning.specs.Linking.{chained, AreChainedTo}
 use Rattle.kt_certify.proofs.chains.chained.Given as goal
 
 abbrev pub invariant-loop-p : goal.invariant-loop-p

@@ -1,7 +1,7 @@
 use Rattle.std.proofs.Common.{◌∙◌, ℕ, Option, unwrap_or, sym, ap, arith}
 use Rattle.kt_base.specs.declared.words.Kind.{Kind}
-use Rattle.kt_cuts.specs.Past.{past}
-use Rattle.kt_certify.specs.Linking.{least_link}
+use Rattle.kt_meaning.specs.Past.{past}
+use Rattle.kt_meaning.specs.Linking.{least_link}
 use Rattle.kt_certify.proofs.Walked.{by_checkpoint, by_rollback}
 use Rattle.kt_certify.proofs.chains.link.Goals as goal
 

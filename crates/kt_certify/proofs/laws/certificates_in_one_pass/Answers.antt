@@ -1,6 +1,6 @@
 use Rattle.std.proofs.Common.{refl}
-use Rattle.kt_cuts.specs.Past.{past}
-use Rattle.kt_cuts.proofs.LegalLogs.{legal_last}
+use Rattle.kt_meaning.specs.Past.{past}
+use Rattle.kt_meaning.proofs.LegalLogs.{legal_last}
 use Rattle.kt_certify.proofs.Changed.{changed_set}
 use Rattle.kt_certify.proofs.PassSteps.{step, listed_of}
 use Rattle.kt_certify.proofs.WholePass.{seen_none, seen_next, found_of, in_one_pass, instance_there}

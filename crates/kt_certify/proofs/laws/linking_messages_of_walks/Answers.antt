@@ -1,5 +1,5 @@
-use Rattle.kt_certify.proofs.Chained.{chained_more}
-use Rattle.kt_certify.proofs.Through.{through_first}
+use Rattle.kt_meaning.proofs.Chained.{chained_more}
+use Rattle.kt_meaning.proofs.Through.{through_first}
 use Rattle.kt_certify.proofs.FirstArrivals.{walk_arrived, walk_searched}
 use Rattle.kt_certify.proofs.laws.linking_messages_of_walks.Goals as goal
 

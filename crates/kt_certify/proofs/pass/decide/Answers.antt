@@ -1,7 +1,7 @@
 use Rattle.std.proofs.Common.{ℕ, ◌≤◌, sym, subst, ◌∙◌, ◌-◌}
 use Rattle.std.proofs.lemmas.Option.{slice_get_read}
-use Rattle.kt_cuts.specs.Past.{past}
-use Rattle.kt_cuts.proofs.SortedFacts.{some_same}
+use Rattle.kt_meaning.specs.Past.{past}
+use Rattle.kt_meaning.proofs.Items.{some_same}
 use Rattle.kt_certify.specs.Instances.{InstanceParts, decided_as}
 use Rattle.kt_certify.specs.Stops.{HasChains}
 use Rattle.kt_certify.proofs.AtNumber.{set_number, left_number, number_there, number_past}

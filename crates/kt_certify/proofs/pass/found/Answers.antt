@@ -2,8 +2,8 @@ use Rattle.std.proofs.Common.{◌≡◌, ◌<◌, Some, Option, [], ◌++◌, le
 use Rattle.std.specs.List.{slice_get, cons_option}
 use Rattle.std.proofs.lemmas.Option.{slice_get_read}
 use Rattle.std.proofs.lemmas.List.{append-nil, length-set}
-use Rattle.kt_cuts.proofs.Items.{get_set_other}
-use Rattle.kt_chain.specs.declared.certificate.Certificate.{Certificate}
+use Rattle.kt_meaning.proofs.Items.{get_set_other}
+use Rattle.kt_spacetime.specs.declared.certificate.Certificate.{Certificate}
 use Rattle.kt_certify.proofs.AtNumber.{found_more}
 use Rattle.kt_certify.proofs.pass.found.Goals as goal
 use Rattle.kt_certify.proofs.pass.found.Goals.{in-Some+in_ok-push, in_default}

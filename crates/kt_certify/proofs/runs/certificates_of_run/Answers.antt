@@ -1,8 +1,8 @@
 use Rattle.std.proofs.Common.{sym, subst}
 use Rattle.std.proofs.lemmas.Result.{IfOk-weaker}
-use Rattle.kt_cuts.specs.Legal.{IsLegal}
-use Rattle.kt_cuts.proofs.LegalLogs.{legal_take}
-use Rattle.kt_certify.specs.Faults.{IsFitLog}
+use Rattle.kt_meaning.specs.Legal.{IsLegal}
+use Rattle.kt_meaning.proofs.LegalLogs.{legal_take}
+use Rattle.kt_meaning.specs.Fitness.{IsFitLog}
 use Rattle.kt_certify.proofs.RunFacts.{fit_in_front, are_certificates, are_as_meant, are_short, are_said}
 use Rattle.kt_certify.proofs.runs.certificates_of_run.Goals as goal
 

@@ -1,9 +1,9 @@
 use Rattle.std.proofs.Common.{◌+◌, take, refl, subst, arith, length-take}
 use Rattle.std.proofs.lemmas.List.{take_all}
-use Rattle.kt_cuts.specs.Legal.{IsLegal}
-use Rattle.kt_cuts.proofs.Items.{take_item}
-use Rattle.kt_cuts.proofs.LegalLogs.{legal_take}
-use Rattle.kt_cuts.proofs.Replayed.{row_read}
+use Rattle.kt_meaning.specs.Legal.{IsLegal}
+use Rattle.kt_meaning.proofs.Items.{take_item}
+use Rattle.kt_meaning.proofs.LegalLogs.{legal_take}
+use Rattle.kt_rules.proofs.Replayed.{row_read}
 use Rattle.kt_certify.specs.Instances.{AreInstancesOf}
 use Rattle.kt_certify.proofs.runs.feed_all.Goals as goal
 

@@ -1,7 +1,6 @@
 use Rattle.std.proofs.Common.{◌≡◌, ◌∷◌, map, take}
-use Rattle.kt_text.specs.Writing.{text_of}
+use Rattle.kt_text.specs.Writing.{text_of, Sends}
 use Rattle.kt_chain.specs.Spelling.{instance_record, member_record, marked}
-use Rattle.kt_text.specs.Writing.{Sends}
 use Rattle.kt_chain.proofs.writing.write_certificate.Given as goal
 
 abbrev pub invariant-loop-member : goal.invariant-loop-member

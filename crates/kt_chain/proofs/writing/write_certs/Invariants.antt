@@ -1,7 +1,6 @@
 use Rattle.std.proofs.Common.{[], take}
-use Rattle.kt_text.specs.Writing.{text_of}
+use Rattle.kt_text.specs.Writing.{text_of, Sends}
 use Rattle.kt_chain.specs.Spelling.{records_of}
-use Rattle.kt_text.specs.Writing.{Sends}
 use Rattle.kt_chain.proofs.writing.write_certs.Given as goal
 
 abbrev pub invariant-loop-certificate : goal.invariant-loop-certificate

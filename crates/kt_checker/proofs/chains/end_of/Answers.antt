@@ -1,5 +1,5 @@
 use Rattle.std.proofs.Common.{sym, map, subst}
-use Rattle.kt_checker.specs.Passing.{IsChain}
+use Rattle.kt_meaning.specs.Passing.{IsChain}
 use Rattle.kt_checker.specs.Followed.{message_of}
 use Rattle.kt_checker.proofs.Following.{chain_none, path_end}
 use Rattle.kt_checker.proofs.chains.end_of.Goals as goal

@@ -2,9 +2,9 @@ use Rattle.std.proofs.Common.{◌≡◌, ◌+◌, refl, sym, ap, map, subst, ◌
 use Rattle.std.specs.List.{slice_get}
 use Rattle.std.proofs.lemmas.List.{take_all}
 use Rattle.std.proofs.lemmas.Option.{slice_get_read}
-use Rattle.kt_cuts.specs.Past.{past}
-use Rattle.kt_cuts.proofs.Items.{take_item}
-use Rattle.kt_checker.specs.Passing.{IsChain}
+use Rattle.kt_meaning.specs.Past.{past}
+use Rattle.kt_meaning.proofs.Items.{take_item}
+use Rattle.kt_meaning.specs.Passing.{IsChain}
 use Rattle.kt_checker.specs.Followed.{IsPath, IsPathOf, message_of}
 use Rattle.kt_checker.proofs.Chaining.{chain_more}
 use Rattle.kt_checker.proofs.Links.{no_way, around}

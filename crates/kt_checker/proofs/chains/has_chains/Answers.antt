@@ -2,10 +2,10 @@ use Rattle.std.proofs.Common.{◌≡◌, ℕ, List, refl, sym, ap, subst, ◌∙
 use Rattle.std.proofs.lemmas.Bool.{cases_eq}
 use Rattle.std.proofs.lemmas.Option.{slice_get_read, slice_get_within}
 use Rattle.std.specs.List.{slice_get}
-use Rattle.kt_cuts.specs.Past.{past}
-use Rattle.kt_cuts.proofs.SortedFacts.{some_same}
-use Rattle.kt_checker.specs.Passing.{IsListOf}
-use Rattle.kt_checker.proofs.Chaining.{never}
+use Rattle.kt_meaning.specs.Past.{past}
+use Rattle.kt_meaning.proofs.Items.{some_same}
+use Rattle.kt_meaning.specs.Passing.{IsListOf}
+use Rattle.kt_rules.proofs.Traced.{never}
 use Rattle.kt_checker.proofs.chains.has_chains.Goals as goal
 
 pub loop-process-preserved : goal.loop-process-preserved

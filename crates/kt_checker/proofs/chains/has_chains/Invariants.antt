@@ -1,9 +1,9 @@
 use Rattle.std.proofs.Common.{◌≡◌, ℕ, ◌<◌, Some, List}
 use Rattle.std.specs.List.{slice_get}
 use Rattle.kt_spacetime.specs.declared.event.Event.{Event}
-use Rattle.kt_cuts.specs.Past.{past}
+use Rattle.kt_meaning.specs.Past.{past}
 use Rattle.kt_walk.specs.WalkOf.{WalkOf}
-use Rattle.kt_checker.specs.Passing.{IsListOf}
+use Rattle.kt_meaning.specs.Passing.{IsListOf}
 use Rattle.kt_checker.specs.Followed.{IsPath}
 use Rattle.kt_checker.proofs.chains.has_chains.Given as goal
 

@@ -1,8 +1,10 @@
 use Rattle.std.proofs.Common.{refl, sym, subst, ◌∙◌, [], ◌∷◌}
-use Rattle.kt_cuts.specs.Past.{past}
-use Rattle.kt_checker.specs.Passing.{IsChain}
-use Rattle.kt_checker.proofs.Chaining.{chain_more, never}
-use Rattle.kt_checker.proofs.Links.{one_end, other_from, list_of_other, ending}
+use Rattle.kt_meaning.specs.Past.{past}
+use Rattle.kt_meaning.specs.Passing.{IsChain}
+use Rattle.kt_checker.proofs.Chaining.{chain_more}
+use Rattle.kt_rules.proofs.Traced.{never}
+use Rattle.kt_checker.proofs.Links.{one_end, list_of_other, ending}
+use Rattle.kt_meaning.proofs.Links.{other_from}
 use Rattle.kt_checker.proofs.Following.{path_pushed}
 use Rattle.kt_checker.proofs.chains.is_chain.Goals as goal
 

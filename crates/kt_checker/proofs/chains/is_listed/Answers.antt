@@ -1,6 +1,7 @@
 use Rattle.std.proofs.Common.{arith}
 use Rattle.std.proofs.lemmas.Option.{slice_get_within}
-use Rattle.kt_checker.proofs.Chaining.{none_listed, never}
+use Rattle.kt_checker.proofs.Chaining.{none_listed}
+use Rattle.kt_rules.proofs.Traced.{never}
 use Rattle.kt_checker.proofs.chains.is_listed.Goals as goal
 
 pub returns : goal.returns

@@ -1,8 +1,8 @@
 use Rattle.std.proofs.Common.{[], ◌∷◌, sym, subst, ◌∙◌, arith}
-use Rattle.kt_cuts.specs.Past.{past}
-use Rattle.kt_cuts.proofs.SortedFacts.{some_same}
-use Rattle.kt_checker.specs.Passing.{IsChain}
-use Rattle.kt_checker.proofs.Chaining.{never}
+use Rattle.kt_meaning.specs.Past.{past}
+use Rattle.kt_meaning.proofs.Items.{some_same}
+use Rattle.kt_meaning.specs.Passing.{IsChain}
+use Rattle.kt_rules.proofs.Traced.{never}
 use Rattle.kt_checker.proofs.Links.{received_link, within_new, new_beyond, at_most_from, is_at_most}
 use Rattle.kt_checker.proofs.chains.leads.Goals as goal
 

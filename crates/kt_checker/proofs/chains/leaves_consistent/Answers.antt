@@ -1,9 +1,9 @@
 use Rattle.std.proofs.Common.{◌≡◌, ◌<◌, ℕ, false}
 use Rattle.std.specs.List.{slice_index}
 use Rattle.kt_base.specs.Sets.{has}
-use Rattle.kt_cuts.specs.Past.{past}
-use Rattle.kt_cuts.proofs.OrphanFacts.{orphan_of}
-use Rattle.kt_checker.specs.Passing.{decided_cut, earlier_cut}
+use Rattle.kt_meaning.specs.Past.{past}
+use Rattle.kt_rules.proofs.OrphanFacts.{orphan_of}
+use Rattle.kt_meaning.specs.Passing.{decided_cut, earlier_cut}
 use Rattle.kt_checker.proofs.Chaining.{consistent_of, exact_search, orphan_at_changed}
 use Rattle.kt_checker.proofs.Answering.{orphan_refutes}
 use Rattle.kt_checker.proofs.Inside.{earlier_consistent, keeps_permanent}

@@ -1,8 +1,8 @@
 use Rattle.std.proofs.Common.{[], ◌∷◌, arith, sym, subst, ◌∙◌, inl, inr}
 use Rattle.std.proofs.lemmas.Bool.{cases_eq}
-use Rattle.kt_cuts.specs.Past.{past}
-use Rattle.kt_checker.specs.Passing.{IsChain}
-use Rattle.kt_checker.proofs.Chaining.{never}
+use Rattle.kt_meaning.specs.Past.{past}
+use Rattle.kt_meaning.specs.Passing.{IsChain}
+use Rattle.kt_rules.proofs.Traced.{never}
 use Rattle.kt_checker.proofs.Links.{leads_low}
 use Rattle.kt_checker.proofs.chains.next_in_chain.Goals as goal
 

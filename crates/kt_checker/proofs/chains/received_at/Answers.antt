@@ -1,8 +1,8 @@
 use Rattle.std.proofs.Common.{◌≡◌, Some, refl, arith, ap, sym, ◌∙◌}
 use Rattle.kt_base.specs.declared.words.Kind.TheVariants.{Rollback}
-use Rattle.kt_cuts.specs.declared.traces.Trace.{Trace}
-use Rattle.kt_cuts.specs.Past.{past}
-use Rattle.kt_cuts.proofs.SortedFacts.{some_same}
+use Rattle.kt_rules.specs.declared.traces.Trace.{Trace}
+use Rattle.kt_meaning.specs.Past.{past}
+use Rattle.kt_meaning.proofs.Items.{some_same}
 use Rattle.kt_walk.specs.Keeping.{kept_trace}
 use Rattle.kt_walk.proofs.WalkLinks.{kept_traced}
 use Rattle.kt_checker.proofs.Links.{step_of, kept_places, received_place}

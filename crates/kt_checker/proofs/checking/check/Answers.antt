@@ -1,7 +1,8 @@
 use Rattle.std.proofs.lemmas.Result.{IfOk-weaker}
 use Rattle.std.proofs.lemmas.Option.{slice_get_within}
-use Rattle.kt_checker.proofs.Sound.{checkpoints_least, rollbacks_least, aborts, permanent_consistent, present_consistent}
-use Rattle.kt_checker.proofs.Answering.{passed_of, yes_of}
+use Rattle.kt_meaning.proofs.Sound.{checkpoints_least, rollbacks_least, aborts}
+use Rattle.kt_checker.proofs.Sound.{permanent_consistent, present_consistent}
+use Rattle.kt_meaning.proofs.Answering.{passed_of, yes_of}
 use Rattle.kt_checker.proofs.checking.check.Goals as goal
 
 pub returns-clause-yes : goal.returns-clause-yes

@@ -1,10 +1,10 @@
 use Rattle.std.proofs.Common.{◌+◌, take, refl, sym, subst, arith, inl, inr, length-take}
 use Rattle.std.proofs.lemmas.List.{take_all}
 use Rattle.std.proofs.lemmas.Result.{IfOk-weaker}
-use Rattle.kt_cuts.proofs.Items.{take_item}
-use Rattle.kt_cuts.proofs.Replayed.{row_read}
+use Rattle.kt_meaning.proofs.Items.{take_item}
+use Rattle.kt_rules.proofs.Replayed.{row_read}
 use Rattle.kt_checker.specs.Judged.{JudgeOf}
-use Rattle.kt_checker.specs.Order.{IsBadLog}
+use Rattle.kt_meaning.specs.Answers.{IsBadLog}
 use Rattle.kt_checker.proofs.Judging.{bad_front}
 use Rattle.kt_checker.proofs.checking.judge_rows.Goals as goal
 

@@ -1,6 +1,6 @@
 use Rattle.std.proofs.Common.{sym, ap, ◌∙◌, inl, inr}
 use Rattle.std.specs.Option.{option_copied}
-use Rattle.kt_checker.proofs.Chaining.{never}
+use Rattle.kt_rules.proofs.Traced.{never}
 use Rattle.kt_checker.proofs.Sound.{passes_of}
 use Rattle.kt_checker.proofs.Marking.{number_within}
 use Rattle.kt_checker.proofs.Answering.{gathered_as, refuted_of}

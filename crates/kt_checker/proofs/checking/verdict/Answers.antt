@@ -1,7 +1,7 @@
 use Rattle.std.proofs.Common.{◌≡◌, ◌+◌, Some, length, refl, sym, ap, subst, ◌∙◌, arith, inl, inr}
 use Rattle.std.proofs.lemmas.Option.{slice_get_read}
 use Rattle.std.specs.List.{slice_get}
-use Rattle.kt_cuts.proofs.Items.{written}
+use Rattle.kt_meaning.proofs.Items.{written}
 use Rattle.kt_checker.specs.Missing.{AnswersMissing}
 use Rattle.kt_checker.proofs.Marking.{IsMarkedBy, HasMarked, marked_next, marks_next, marked_all, marks_all, seen_second}
 use Rattle.kt_checker.proofs.Answering.{pass_next, pass_all, answer_of}

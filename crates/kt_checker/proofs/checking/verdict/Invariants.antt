@@ -1,8 +1,8 @@
 use Rattle.std.proofs.Common.{◌≡◌, List, length}
 use Rattle.kt_spacetime.specs.declared.event.Event.{Event}
-use Rattle.kt_cuts.specs.Legal.{IsLegal}
+use Rattle.kt_meaning.specs.Legal.{IsLegal}
 use Rattle.kt_checker.specs.Gathered.{Gathered}
-use Rattle.kt_checker.specs.Passing.{PassBefore}
+use Rattle.kt_meaning.specs.Passing.{PassBefore}
 use Rattle.kt_checker.proofs.Marking.{IsMarkedBy, HasMarked}
 use Rattle.kt_checker.proofs.checking.verdict.Given as goal
 

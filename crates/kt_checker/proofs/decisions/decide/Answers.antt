@@ -1,7 +1,7 @@
 use Rattle.std.proofs.Common.{◌≡◌, ◌≤◌, ◌-◌, arith, ap}
 use Rattle.kt_spacetime.specs.declared.event.Event.TheVariants as event
-use Rattle.kt_cuts.specs.Past.{past}
-use Rattle.kt_cuts.proofs.LegalLogs.{kept, legal_last}
+use Rattle.kt_meaning.specs.Past.{past}
+use Rattle.kt_meaning.proofs.LegalLogs.{kept, legal_last}
 use Rattle.kt_checker.proofs.Gathering.{gathered_decided, never_past}
 use Rattle.kt_checker.proofs.decisions.decide.Goals as goal
 

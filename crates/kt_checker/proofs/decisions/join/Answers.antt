@@ -1,7 +1,7 @@
 use Rattle.std.proofs.Common.{◌≡◌, ◌≤◌, ◌-◌, arith, ap, refl}
 use Rattle.kt_spacetime.specs.declared.event.Event.TheVariants as event
-use Rattle.kt_cuts.specs.Past.{past}
-use Rattle.kt_cuts.proofs.LegalLogs.{kept, legal_last}
+use Rattle.kt_meaning.specs.Past.{past}
+use Rattle.kt_meaning.proofs.LegalLogs.{kept, legal_last}
 use Rattle.kt_checker.proofs.Gathering.{gathered_took, gathered_ready, never_past}
 use Rattle.kt_checker.proofs.decisions.join.Goals as goal
 

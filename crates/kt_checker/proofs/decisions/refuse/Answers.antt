@@ -1,8 +1,8 @@
 use Rattle.std.proofs.Common.{◌≡◌, ◌≤◌, ◌-◌, arith, ap}
 use Rattle.kt_spacetime.specs.declared.event.Event.TheVariants as event
 use Rattle.std.proofs.lemmas.Bool.{and_parts}
-use Rattle.kt_cuts.specs.Past.{past}
-use Rattle.kt_cuts.proofs.LegalLogs.{kept, legal_last}
+use Rattle.kt_meaning.specs.Past.{past}
+use Rattle.kt_meaning.proofs.LegalLogs.{kept, legal_last}
 use Rattle.kt_checker.proofs.Gathering.{gathered_unwilling, never_past}
 use Rattle.kt_checker.proofs.decisions.refuse.Goals as goal
 

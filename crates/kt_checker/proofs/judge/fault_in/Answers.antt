@@ -1,10 +1,10 @@
 use Rattle.std.proofs.Common.{ap, sym, subst, ◌∙◌}
 use Rattle.std.specs.Prelude.{not}
-use Rattle.kt_cuts.specs.Past.{past}
-use Rattle.kt_cuts.proofs.SortedFacts.{some_same}
-use Rattle.kt_checker.specs.Passing.{ListsReadyOf}
-use Rattle.kt_checker.specs.Order.{IsFirstWhy}
-use Rattle.kt_checker.proofs.Chaining.{never}
+use Rattle.kt_meaning.specs.Past.{past}
+use Rattle.kt_meaning.proofs.Items.{some_same}
+use Rattle.kt_meaning.specs.Passing.{ListsReadyOf}
+use Rattle.kt_meaning.specs.Answers.{IsFirstWhy}
+use Rattle.kt_rules.proofs.Traced.{never}
 use Rattle.kt_checker.proofs.Answering.{refused_not}
 use Rattle.kt_checker.proofs.judge.fault_in.Goals as goal
 

@@ -1,6 +1,6 @@
 use Rattle.std.proofs.lemmas.Result.{IfOk-weaker}
 use Rattle.kt_log_text.specs.Reading.{rows_unread}
-use Rattle.kt_checker.proofs.OneAnswer.{passed_exactly}
+use Rattle.kt_checker.proofs.TextAnswers.{passed_exactly}
 use Rattle.kt_checker.proofs.streaming.check_stream.Goals as goal
 
 pub returns-clause-answer : goal.returns-clause-answer

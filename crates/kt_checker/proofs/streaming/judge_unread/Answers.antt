@@ -1,7 +1,7 @@
 use Rattle.std.proofs.Common.{◌∙◌, Option, sym, subst}
 use Rattle.std.proofs.lemmas.Result.{err_from_is_err_and}
 use Rattle.kt_log_text.proofs.GatherFacts.{gathered_to_fault, at_end}
-use Rattle.kt_checker.specs.declared.verdict.Verdict.{Verdict}
+use Rattle.kt_spacetime.specs.declared.verdict.Verdict.{Verdict}
 use Rattle.kt_checker.proofs.FirstPlaces.{none_of, some_of}
 use Rattle.kt_checker.proofs.RowByRow.{HasSeen, seen_none, seen_few, seen_fed, seen_on, bad_answer, legal_answer}
 use Rattle.kt_checker.proofs.streaming.judge_unread.Goals as goal

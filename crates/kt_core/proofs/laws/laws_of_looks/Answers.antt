@@ -7,11 +7,11 @@ use Rattle.kt_plan.specs.declared.steps.Look.{Look}
 use Rattle.kt_plan.specs.declared.steps.Look.TheVariants.{Idle, NeedsSave, NeedsBody, Plain}
 use Rattle.kt_plan.specs.declared.steps.Step.{Step}
 use Rattle.kt_plan.specs.declared.steps.Step.TheVariants.{Do, Take}
-use Rattle.kt_plans.specs.Looks.{look, uses_able, uses_body}
-use Rattle.kt_plans.specs.Progress.{Progress}
-use Rattle.kt_plans.specs.Rows.{has_sent_row, is_offer_step}
-use Rattle.kt_plans.specs.StepActs.{rows_added}
-use Rattle.kt_plans.specs.Steps.{enabled, process_of_step}
+use Rattle.kt_promises.specs.Looks.{look, uses_able, uses_body}
+use Rattle.kt_promises.specs.Progress.{Progress}
+use Rattle.kt_promises.specs.Rows.{has_sent_row, is_offer_step}
+use Rattle.kt_promises.specs.StepActs.{rows_added}
+use Rattle.kt_promises.specs.Steps.{enabled, process_of_step}
 use Rattle.kt_core.proofs.laws.laws_of_looks.Goals as goal
 
 -- it counts whether the object is able, only where a save is needed

@@ -1,8 +1,8 @@
 use Rattle.std.proofs.Common.{◌≡◌, ◌∙◌, ◌+◌, ◌∷◌, ◌++◌, [], List, arith, ap, subst, sym, refl, length, take}
 use Rattle.std.proofs.lemmas.List.{length-take-le, take_all}
 use Rattle.kt_spacetime.specs.declared.event.Event.{Event}
-use Rattle.kt_cuts.proofs.Items.{take_item}
-use Rattle.kt_cuts.proofs.Replayed.{row_read}
+use Rattle.kt_meaning.proofs.Items.{take_item}
+use Rattle.kt_rules.proofs.Replayed.{row_read}
 use Rattle.kt_draw.specs.Followed.{ReadingOf}
 use Rattle.kt_draw.proofs.drawing.read_rows.Goals as goal
 

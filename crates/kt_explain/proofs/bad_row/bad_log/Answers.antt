@@ -1,14 +1,14 @@
 use Rattle.std.proofs.Common.{◌≡◌, ◌∙◌, ℕ, Option, None, List, sym, subst, arith}
 use Rattle.std.specs.Prelude.{IfOk}
 use Rattle.kt_spacetime.specs.declared.event.Event.{Event}
-use Rattle.kt_chain.specs.declared.certificate.Certificate.{Certificate}
-use Rattle.kt_checker.specs.declared.verdict.Verdict.TheVariants.{No}
-use Rattle.kt_checker.specs.declared.verdict.Why.{Why}
-use Rattle.kt_checker.specs.declared.verdict.Why.TheVariants as why
-use Rattle.kt_checker.specs.Order.{IsBadLog}
+use Rattle.kt_spacetime.specs.declared.certificate.Certificate.{Certificate}
+use Rattle.kt_spacetime.specs.declared.verdict.Verdict.TheVariants.{No}
+use Rattle.kt_spacetime.specs.declared.verdict.Why.{Why}
+use Rattle.kt_spacetime.specs.declared.verdict.Why.TheVariants as why
+use Rattle.kt_meaning.specs.Answers.{IsBadLog}
 use Rattle.kt_explain.specs.Told.{IsExplanation}
-use Rattle.kt_cuts.specs.declared.rules.Rule.{Rule}
-use Rattle.kt_cuts.proofs.SortedFacts.{some_same}
+use Rattle.kt_spacetime.specs.declared.rules.Rule.{Rule}
+use Rattle.kt_meaning.proofs.Items.{some_same}
 use Rattle.kt_explain.proofs.Faults.{log_fault, none_some, first_of_no}
 use Rattle.kt_explain.proofs.bad_row.bad_log.Goals as goal
 

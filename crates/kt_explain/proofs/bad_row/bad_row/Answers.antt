@@ -1,10 +1,10 @@
 use Rattle.std.proofs.Common.{◌≡◌, ◌∙◌, ◌-◌, ◌<◌, Bool, true, false, List, length, take, refl, sym, subst, arith}
 use Rattle.kt_spacetime.specs.declared.event.Event.{Event}
-use Rattle.kt_cuts.specs.Past.{past}
-use Rattle.kt_cuts.specs.Legal.{keeps}
-use Rattle.kt_cuts.proofs.Replayed.{row_read}
-use Rattle.kt_cuts.proofs.SortedFacts.{some_same}
-use Rattle.kt_explain.specs.Breaches.{IsFirstUnmet, IsWaitingAt}
+use Rattle.kt_meaning.specs.Past.{past}
+use Rattle.kt_meaning.specs.Legal.{keeps}
+use Rattle.kt_rules.proofs.Replayed.{row_read}
+use Rattle.kt_meaning.proofs.Items.{some_same}
+use Rattle.kt_histories.specs.Breaches.{IsFirstUnmet, IsWaitingAt}
 use Rattle.kt_explain.proofs.Faults.{legal_before, breaks_there}
 use Rattle.kt_explain.proofs.bad_row.bad_row.Goals as goal
 

@@ -1,5 +1,5 @@
 use Rattle.std.proofs.Common.{◌∙◌, List, refl, subst}
-use Rattle.kt_chain.specs.declared.certificate.Certificate.{Certificate}
+use Rattle.kt_spacetime.specs.declared.certificate.Certificate.{Certificate}
 use Rattle.kt_explain.specs.Compared.{AreAlike, IsDifference, IsFirstAt, asks_all, asks_chains, certificate_at}
 use Rattle.kt_explain.proofs.Comparing.{first_within, nothing_alike}
 use Rattle.kt_explain.proofs.compared.beside.Goals as goal

@@ -1,12 +1,12 @@
 use Rattle.std.proofs.Common.{ℕ, List, refl}
-use Rattle.kt_chain.specs.declared.certificate.Certificate.{Certificate}
-use Rattle.kt_checker.specs.declared.verdict.Verdict.{Verdict}
-use Rattle.kt_checker.specs.declared.verdict.Verdict.TheVariants.{No}
+use Rattle.kt_spacetime.specs.declared.certificate.Certificate.{Certificate}
+use Rattle.kt_spacetime.specs.declared.verdict.Verdict.{Verdict}
+use Rattle.kt_spacetime.specs.declared.verdict.Verdict.TheVariants.{No}
 use Rattle.std.proofs.Common.{Some}
 use Rattle.kt_explain.specs.declared.explanation.Explanation.{Explanation}
 use Rattle.kt_explain.specs.Told.{IsExplanation, IsNoOf}
 use Rattle.kt_explain.proofs.Faults.{certificate_legal}
-use Rattle.kt_explain.proofs.Gives.{ok_gives}
+use Rattle.kt_histories.proofs.Gives.{ok_gives}
 use Rattle.kt_explain.proofs.compared.compare.Goals as goal
 
 pub without-requires-clause-legal : goal.without-requires-clause-legal

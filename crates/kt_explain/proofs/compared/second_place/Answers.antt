@@ -2,7 +2,7 @@ use Rattle.std.proofs.Common.{ℕ, Option, sym, subst}
 use Rattle.std.specs.Prelude.{IfNone, IfSome}
 use Rattle.kt_explain.specs.Compared.{IsAlone, IsSecondAt}
 use Rattle.kt_explain.proofs.Comparing.{second_found, second_lacks, none_alone}
-use Rattle.kt_explain.proofs.Gives.{if_none}
+use Rattle.kt_histories.proofs.Gives.{if_none}
 use Rattle.kt_explain.proofs.compared.second_place.Goals as goal
 
 pub returns : goal.returns

@@ -1,9 +1,9 @@
 use Rattle.std.proofs.Common.{List, subst}
 use Rattle.kt_spacetime.specs.declared.event.Event.{Event}
-use Rattle.kt_cuts.specs.Legal.{is_join}
-use Rattle.kt_certify.specs.declared.fault.CertFault.{CertFault}
-use Rattle.kt_certify.specs.Faults.{IsFaultOf}
-use Rattle.kt_explain.specs.Finding.{IsLastNumber}
+use Rattle.kt_meaning.specs.Legal.{is_join}
+use Rattle.kt_spacetime.specs.declared.unfit.CertFault.{CertFault}
+use Rattle.kt_meaning.specs.Fitness.{IsFaultOf}
+use Rattle.kt_histories.specs.Finding.{IsLastNumber}
 use Rattle.kt_explain.proofs.Faults.{not_broken}
 use Rattle.kt_explain.proofs.compared.without.Goals as goal
 

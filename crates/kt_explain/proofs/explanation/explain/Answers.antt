@@ -1,14 +1,14 @@
 use Rattle.std.proofs.Common.{ℕ, Option, None, List, sym, subst}
 use Rattle.std.specs.Prelude.{IfOk}
 use Rattle.kt_spacetime.specs.declared.event.Event.{Event}
-use Rattle.kt_chain.specs.declared.certificate.Certificate.{Certificate}
-use Rattle.kt_checker.specs.declared.verdict.Verdict.{Verdict}
-use Rattle.kt_checker.specs.declared.verdict.Verdict.TheVariants.{No}
-use Rattle.kt_checker.specs.Order.{IsCheckerAnswer, IsBadLog}
+use Rattle.kt_spacetime.specs.declared.certificate.Certificate.{Certificate}
+use Rattle.kt_spacetime.specs.declared.verdict.Verdict.{Verdict}
+use Rattle.kt_spacetime.specs.declared.verdict.Verdict.TheVariants.{No}
+use Rattle.kt_meaning.specs.Answers.{IsCheckerAnswer, IsBadLog}
 use Rattle.kt_explain.specs.declared.explanation.Explanation.{Explanation}
 use Rattle.kt_explain.specs.Told.{IsExplanation}
 use Rattle.kt_explain.proofs.Faults.{bad_without_instance}
-use Rattle.kt_explain.proofs.Gives.{ok_gives}
+use Rattle.kt_histories.proofs.Gives.{ok_gives}
 use Rattle.kt_explain.proofs.Leftovers.{yes_legal}
 use Rattle.kt_explain.proofs.explanation.explain.Goals as goal
 

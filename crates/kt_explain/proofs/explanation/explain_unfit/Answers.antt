@@ -1,9 +1,9 @@
 use Rattle.std.proofs.Common.{◌≡◌, Some, List, length, refl, ap, subst, arith}
 use Rattle.kt_spacetime.specs.declared.event.Event.{Event}
-use Rattle.kt_cuts.proofs.SortedFacts.{some_same}
-use Rattle.kt_certify.specs.Faults.{IsUnfit}
-use Rattle.kt_certify.specs.declared.fault.Unfit.{Unfit}
-use Rattle.kt_checker.specs.declared.verdict.Why.TheVariants as why
+use Rattle.kt_meaning.proofs.Items.{some_same}
+use Rattle.kt_meaning.specs.Fitness.{IsUnfit}
+use Rattle.kt_spacetime.specs.declared.unfit.Unfit.{Unfit}
+use Rattle.kt_spacetime.specs.declared.verdict.Why.TheVariants as why
 use Rattle.kt_explain.proofs.Faults.{log_fault}
 use Rattle.kt_explain.proofs.explanation.explain_unfit.Goals as goal
 

@@ -1,10 +1,10 @@
 use Rattle.std.proofs.Common.{◌≡◌, refl, subst, sym, ap, ◌∙◌}
 use Rattle.kt_spacetime.specs.declared.event.Event.{Event}
 use Rattle.kt_spacetime.specs.declared.event.Event.TheVariants.{Unwilling}
-use Rattle.kt_checker.specs.Unwilling.{is_unwilling}
-use Rattle.kt_explain.specs.Finding.{IsFirstRow}
+use Rattle.kt_meaning.specs.Unwilling.{is_unwilling}
+use Rattle.kt_histories.specs.Finding.{IsFirstRow}
 use Rattle.kt_explain.proofs.CauseRows.{decided_unwilling, decided_willing}
-use Rattle.kt_explain.proofs.FoundRows.{unwilling_row}
+use Rattle.kt_histories.proofs.FoundRows.{unwilling_row}
 use Rattle.kt_explain.proofs.explanation.objection.Goals as goal
 
 pub returns-in_default : goal.returns-in_default

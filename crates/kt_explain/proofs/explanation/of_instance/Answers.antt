@@ -1,10 +1,10 @@
 use Rattle.std.proofs.Common.{ℕ, Option, Some, None, List, sym, subst}
 use Rattle.std.specs.Prelude.{IfOk}
 use Rattle.kt_spacetime.specs.declared.event.Event.{Event}
-use Rattle.kt_checker.specs.declared.verdict.Verdict.TheVariants.{No}
-use Rattle.kt_checker.specs.declared.verdict.Why.{Why}
-use Rattle.kt_checker.specs.declared.verdict.Why.TheVariants as why
-use Rattle.kt_checker.specs.Order.{IsCheckerAnswer}
+use Rattle.kt_spacetime.specs.declared.verdict.Verdict.TheVariants.{No}
+use Rattle.kt_spacetime.specs.declared.verdict.Why.{Why}
+use Rattle.kt_spacetime.specs.declared.verdict.Why.TheVariants as why
+use Rattle.kt_meaning.specs.Answers.{IsCheckerAnswer}
 use Rattle.kt_explain.specs.Told.{IsExplanation}
 use Rattle.kt_explain.proofs.CauseRows.{cause_row}
 use Rattle.kt_explain.proofs.Comparing.{of_others}

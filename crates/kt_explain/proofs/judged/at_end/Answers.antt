@@ -3,7 +3,7 @@ use Rattle.std.proofs.lemmas.List.{take_all}
 use Rattle.kt_spacetime.specs.declared.event.Event.{Event}
 use Rattle.kt_histories.specs.declared.histories.Histories.{Histories}
 use Rattle.kt_histories.specs.HistoriesOf.{HistoriesOf}
-use Rattle.kt_chain.specs.declared.certificate.Certificate.{Certificate}
+use Rattle.kt_spacetime.specs.declared.certificate.Certificate.{Certificate}
 use Rattle.kt_explain.specs.declared.judged.Judged.{Judged}
 use Rattle.kt_explain.specs.Judged.{IsJudgedSo}
 use Rattle.kt_explain.proofs.judged.at_end.Goals as goal

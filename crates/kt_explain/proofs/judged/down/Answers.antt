@@ -1,6 +1,6 @@
 use Rattle.std.proofs.Common.{ℕ, Bool, ap, arith}
 use Rattle.std.specs.Prelude.{not}
-use Rattle.kt_cuts.specs.Past.{past}
+use Rattle.kt_meaning.specs.Past.{past}
 use Rattle.kt_explain.proofs.FilledSets.{filled_more}
 use Rattle.kt_explain.proofs.judged.down.Goals as goal
 

@@ -3,7 +3,7 @@ use Rattle.std.specs.Prelude.{◌↔◌, Contains}
 use Rattle.std.specs.Option.{option_to_list}
 use Rattle.std.proofs.lemmas.List.{append-nil, length-append}
 use Rattle.kt_base.specs.Sets.{has}
-use Rattle.kt_cuts.proofs.Replayed.{row_read}
+use Rattle.kt_rules.proofs.Replayed.{row_read}
 use Rattle.kt_explain.proofs.Receivers.{receivers_to, receivers_more, none_yet, with_one}
 use Rattle.kt_explain.proofs.judged.in_transit.Goals as goal
 use Rattle.kt_explain.proofs.judged.in_transit.Goals.{in-Some, in_default}

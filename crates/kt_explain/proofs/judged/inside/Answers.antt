@@ -1,6 +1,6 @@
 use Rattle.std.proofs.Common.{ℕ, arith}
-use Rattle.kt_cuts.specs.Past.{past}
-use Rattle.kt_cuts.specs.Legal.{is_in}
+use Rattle.kt_meaning.specs.Past.{past}
+use Rattle.kt_meaning.specs.Legal.{is_in}
 use Rattle.kt_explain.proofs.FilledSets.{filled_more}
 use Rattle.kt_explain.proofs.judged.inside.Goals as goal
 

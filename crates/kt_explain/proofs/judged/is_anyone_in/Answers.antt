@@ -1,7 +1,7 @@
 use Rattle.std.proofs.Common.{◌<◌, ◌∙◌, ℕ, sym, ap, arith, inl, inr}
 use Rattle.std.proofs.lemmas.Bool.{cases_eq}
-use Rattle.kt_cuts.specs.Past.{past}
-use Rattle.kt_cuts.specs.Legal.{is_in}
+use Rattle.kt_meaning.specs.Past.{past}
+use Rattle.kt_meaning.specs.Legal.{is_in}
 use Rattle.kt_explain.proofs.FilledSets.{someone_in, none_is_in}
 use Rattle.kt_explain.proofs.judged.is_anyone_in.Goals as goal
 

@@ -1,7 +1,7 @@
 use Rattle.std.proofs.Common.{◌≡◌, ◌<◌, List, ℕ, false}
 use Rattle.kt_spacetime.specs.declared.event.Event.{Event}
-use Rattle.kt_cuts.specs.Past.{past}
-use Rattle.kt_cuts.specs.Legal.{is_in}
+use Rattle.kt_meaning.specs.Past.{past}
+use Rattle.kt_meaning.specs.Legal.{is_in}
 use Rattle.kt_histories.specs.HistoriesOf.{HistoriesOf}
 use Rattle.kt_explain.proofs.judged.is_anyone_in.Given as goal
 

@@ -1,6 +1,6 @@
 use Rattle.std.proofs.Common.{◌∙◌, refl, sym}
-use Rattle.kt_cuts.specs.Past.{past}
-use Rattle.kt_cuts.proofs.Replayed.{row_read}
+use Rattle.kt_meaning.specs.Past.{past}
+use Rattle.kt_rules.proofs.Replayed.{row_read}
 use Rattle.kt_explain.specs.declared.judged.OpenInstance.{OpenInstance}
 use Rattle.kt_explain.proofs.Leftovers.{told_with, told_without}
 use Rattle.kt_explain.proofs.judged.open_instances.Goals as goal

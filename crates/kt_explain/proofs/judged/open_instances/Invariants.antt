@@ -1,6 +1,6 @@
 use Rattle.std.proofs.Common.{take}
 use Rattle.std.specs.List.{AllZip, filter_map}
-use Rattle.kt_cuts.specs.Past.{past}
+use Rattle.kt_meaning.specs.Past.{past}
 use Rattle.kt_explain.specs.Judged.{IsOpenInstance, begun_open}
 use Rattle.kt_explain.proofs.judged.open_instances.Given as goal
 

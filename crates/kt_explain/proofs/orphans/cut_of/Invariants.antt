@@ -1,11 +1,11 @@
 use Rattle.std.proofs.Common.{◌≡◌, ℕ, ◌<◌, Some, List, length}
 use Rattle.std.specs.List.{slice_index}
 use Rattle.kt_spacetime.specs.declared.event.Event.{Event}
-use Rattle.kt_cuts.specs.Past.{past, kind_of}
-use Rattle.kt_cuts.specs.Legal.{IsLegal}
-use Rattle.kt_cuts.specs.Chains.{members}
+use Rattle.kt_meaning.specs.Past.{past, kind_of}
+use Rattle.kt_meaning.specs.Legal.{IsLegal}
+use Rattle.kt_meaning.specs.Chains.{members}
 use Rattle.kt_histories.specs.HistoriesOf.{HistoriesOf}
-use Rattle.kt_checker.specs.Passing.{decided_cut}
+use Rattle.kt_meaning.specs.Passing.{decided_cut}
 use Rattle.kt_explain.proofs.orphans.cut_of.Given as goal
 
 abbrev pub invariant-loop-number : goal.invariant-loop-number

@@ -1,10 +1,10 @@
 use Rattle.std.specs.List.{slice_index}
-use Rattle.kt_cuts.specs.Past.{past}
-use Rattle.kt_checker.specs.Passing.{decided_cut}
+use Rattle.kt_meaning.specs.Past.{past}
+use Rattle.kt_meaning.specs.Passing.{decided_cut}
 use Rattle.kt_explain.specs.Told.{HasParts, IsLeastOrphan, IsOrphanTold}
-use Rattle.kt_explain.proofs.Gives.{some_gives, none_gives}
+use Rattle.kt_histories.proofs.Gives.{some_gives, none_gives}
 use Rattle.kt_explain.proofs.Orphaned.{least_same, same_orphan, told_least}
-use Rattle.kt_explain.proofs.ReceivedRows.{consistent_without}
+use Rattle.kt_histories.proofs.ReceivedRows.{consistent_without}
 use Rattle.kt_explain.proofs.orphans.least_orphan.Goals as goal
 
 pub returns-clause-orphan : goal.returns-clause-orphan

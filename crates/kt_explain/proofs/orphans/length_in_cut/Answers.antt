@@ -2,9 +2,9 @@ use Rattle.std.proofs.Common.{◌≡◌, Some, List, ℕ, sym, ap, ◌∙◌, su
 use Rattle.std.specs.Prelude.{Contains}
 use Rattle.kt_base.specs.declared.words.Kind.{Kind}
 use Rattle.kt_base.specs.declared.words.Kind.TheVariants.{Rollback}
-use Rattle.kt_cuts.specs.Past.{past}
-use Rattle.kt_checker.specs.Passing.{decided_cut}
-use Rattle.kt_checker.proofs.Chaining.{never}
+use Rattle.kt_meaning.specs.Past.{past}
+use Rattle.kt_meaning.specs.Passing.{decided_cut}
+use Rattle.kt_rules.proofs.Traced.{never}
 use Rattle.kt_explain.proofs.Orphaned.{inside_cut, outside_cut}
 use Rattle.kt_explain.proofs.orphans.length_in_cut.Goals as goal
 

@@ -1,8 +1,8 @@
 use Rattle.std.proofs.Common.{◌≡◌, ◌-◌, ◌+◌, ℕ, Option, take, refl, subst, ap, ◌∙◌, arith}
-use Rattle.kt_cuts.specs.Past.{past, kind_of}
+use Rattle.kt_meaning.specs.Past.{past, kind_of}
 use Rattle.std.specs.Prelude.{IfNone}
-use Rattle.kt_cuts.specs.Cuts.{IsConsistent}
-use Rattle.kt_checker.specs.Passing.{decided_cut}
+use Rattle.kt_meaning.specs.Cuts.{IsConsistent}
+use Rattle.kt_meaning.specs.Passing.{decided_cut}
 use Rattle.kt_explain.specs.declared.orphans.Orphan.{Orphan}
 use Rattle.kt_explain.proofs.Faults.{before, orphan_fault, not_consistent}
 use Rattle.kt_explain.proofs.orphans.orphan_at.Goals as goal

@@ -1,11 +1,11 @@
 use Rattle.std.proofs.Common.{List, take, sym, subst}
 use Rattle.std.specs.Prelude.{IfNone, IfOk, IfSome}
 use Rattle.kt_spacetime.specs.declared.event.Event.{Event}
-use Rattle.kt_cuts.specs.Past.{past}
-use Rattle.kt_cuts.specs.Cuts.{IsConsistent}
-use Rattle.kt_cuts.specs.Legal.{IsLegal}
-use Rattle.kt_cuts.proofs.LegalLogs.{legal_take}
-use Rattle.kt_checker.specs.Passing.{decided_cut}
+use Rattle.kt_meaning.specs.Past.{past}
+use Rattle.kt_meaning.specs.Cuts.{IsConsistent}
+use Rattle.kt_meaning.specs.Legal.{IsLegal}
+use Rattle.kt_meaning.proofs.LegalLogs.{legal_take}
+use Rattle.kt_meaning.specs.Passing.{decided_cut}
 use Rattle.kt_explain.specs.Told.{IsOrphanTold}
 use Rattle.kt_explain.proofs.orphans.orphan_before.Goals as goal
 

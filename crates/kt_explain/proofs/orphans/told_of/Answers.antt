@@ -3,9 +3,9 @@ use Rattle.std.specs.List.{slice_get}
 use Rattle.std.proofs.lemmas.Option.{slice_get-get_or, slice_get_within, get_or_from_slice_get}
 use Rattle.kt_spacetime.specs.declared.event.Event.{Event}
 use Rattle.kt_spacetime.specs.declared.event.Event.TheVariants as event
-use Rattle.kt_explain.specs.Finding.{IsLastRow, receives}
-use Rattle.kt_explain.proofs.FoundRows.{received_row}
-use Rattle.kt_explain.proofs.ReceivedRows.{orphan_rows, message_index, index_message, no_lost_orphan}
+use Rattle.kt_histories.specs.Finding.{IsLastRow, receives}
+use Rattle.kt_histories.proofs.FoundRows.{received_row}
+use Rattle.kt_histories.proofs.ReceivedRows.{orphan_rows, message_index, index_message, no_lost_orphan}
 use Rattle.kt_explain.proofs.orphans.told_of.Goals as goal
 
 pub returns-then-index-rows-clause-none : goal.returns-then-index-rows-clause-none

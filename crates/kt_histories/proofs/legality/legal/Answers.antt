@@ -1,8 +1,8 @@
 use Rattle.std.proofs.Common.{◌≡◌, ◌+◌, length, rules, Some, arith, refl, sym, ◌∙◌}
-use Rattle.kt_cuts.specs.Past.{start}
-use Rattle.kt_cuts.proofs.Items.{take_item}
-use Rattle.kt_cuts.proofs.LegalLogs.{first_broken_at, legal_push}
-use Rattle.kt_cuts.proofs.Replayed.{row_read}
+use Rattle.kt_meaning.specs.Past.{start}
+use Rattle.kt_meaning.proofs.Items.{take_item}
+use Rattle.kt_meaning.proofs.LegalLogs.{first_broken_at, legal_push}
+use Rattle.kt_rules.proofs.Replayed.{row_read}
 use Rattle.kt_histories.proofs.Replayed.{replayed, next_number}
 use Rattle.kt_histories.proofs.legality.legal.Goals as goal
 

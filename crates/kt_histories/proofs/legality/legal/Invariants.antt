@@ -1,5 +1,5 @@
 use Rattle.std.proofs.Common.{take}
-use Rattle.kt_cuts.specs.Legal.{IsLegal}
+use Rattle.kt_meaning.specs.Legal.{IsLegal}
 use Rattle.kt_histories.specs.Standing.{ReplayStandsFor}
 use Rattle.kt_histories.proofs.legality.legal.Given as goal
 

@@ -1,5 +1,5 @@
 use Rattle.std.proofs.Common.{ℕ, ◌+◌, ◌∷◌, [], length, ap, inl, inr, arith, ◌∙◌, length-append}
-use Rattle.kt_cuts.proofs.Items.{get_push}
+use Rattle.kt_meaning.proofs.Items.{get_push}
 use Rattle.kt_histories.proofs.ProcessFacts.{shows_start}
 use Rattle.kt_histories.proofs.process.initial_processes.Goals as goal
 

@@ -1,7 +1,7 @@
 use Rattle.std.proofs.Common.{◌≡◌, ℕ, ◌≤◌, Some, length}
 use Rattle.std.specs.List.{slice_get}
 use Rattle.kt_histories.specs.declared.process.Process.{Process}
-use Rattle.kt_cuts.specs.Past.{start}
+use Rattle.kt_meaning.specs.Past.{start}
 use Rattle.kt_histories.specs.Standing.{ShowsProcess}
 use Rattle.kt_histories.proofs.process.initial_processes.Given as goal
 

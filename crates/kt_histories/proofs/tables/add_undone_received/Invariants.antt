@@ -1,6 +1,6 @@
 use Rattle.std.proofs.Common.{◌≡◌, ℕ, Some, take}
 use Rattle.std.specs.List.{slice_get, Contains}
-use Rattle.kt_cuts.specs.declared.deeds.Deed.TheVariants as deed
+use Rattle.kt_spacetime.specs.declared.deeds.Deed.TheVariants as deed
 use Rattle.kt_histories.specs.declared.process.Process.{Process}
 use Rattle.kt_histories.specs.Standing.{message_at, receiving}
 use Rattle.kt_histories.proofs.tables.add_undone_received.Given as goal

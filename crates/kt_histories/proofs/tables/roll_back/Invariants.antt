@@ -1,7 +1,7 @@
 use Rattle.std.proofs.Common.{◌≡◌, ℕ, ◌≤◌, ◌<◌, true, Some, length}
 use Rattle.std.specs.List.{slice_get, Contains}
 use Rattle.kt_base.specs.Sets.{has}
-use Rattle.kt_cuts.specs.declared.deeds.Deed.TheVariants as deed
+use Rattle.kt_spacetime.specs.declared.deeds.Deed.TheVariants as deed
 use Rattle.kt_histories.specs.declared.process.Process.{Process}
 use Rattle.kt_histories.specs.Tables.{rolled}
 use Rattle.kt_histories.proofs.tables.roll_back.Given as goal

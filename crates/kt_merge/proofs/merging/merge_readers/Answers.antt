@@ -1,8 +1,8 @@
 use Rattle.std.proofs.Common.{◌<◌, ℕ, Option, Some, List, length, refl, subst, arith}
 use Rattle.std.proofs.lemmas.Option.{slice_get_read, slice_get_within}
 use Rattle.std.proofs.lemmas.Result.{err_from_is_err_and}
-use Rattle.kt_names.specs.Names.{nothing_given, given_by}
-use Rattle.kt_part_text.specs.declared.rows.PartRow.{PartRow}
+use Rattle.kt_meaning.specs.Names.{nothing_given, given_by}
+use Rattle.kt_merge.specs.declared.part_rows.PartRow.{PartRow}
 use Rattle.kt_merge.specs.Heads.{IsLeastHead, HasNoHead}
 use Rattle.kt_merge.proofs.MergingFacts.{HasNoNumber, merging_none, merging_more, none_left, writes_all, of_write_fault, stops_at_row, stops_in_writing, stops_at_part, stops_at_end}
 use Rattle.kt_merge.proofs.merging.merge_readers.Goals as goal

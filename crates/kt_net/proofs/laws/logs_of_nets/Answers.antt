@@ -1,6 +1,6 @@
 use Rattle.std.proofs.Common.{◌≡◌, Some, List, sym, subst, ◌∙◌}
 use Rattle.kt_spacetime.specs.declared.event.Event.{Event}
-use Rattle.kt_plans.specs.Headline.{IsPromised}
+use Rattle.kt_meaning.specs.Promised.{IsPromised}
 use Rattle.kt_net.proofs.laws.logs_of_nets.Goals as goal
 
 same_log : (a b : List Event) → Some a ≡ Some b → a ≡ b

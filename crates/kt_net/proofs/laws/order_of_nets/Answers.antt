@@ -1,6 +1,6 @@
 use Rattle.std.proofs.Common.{List, sym, ap, ◌∙◌}
-use Rattle.kt_names.specs.declared.rows.NamedRow.{NamedRow}
-use Rattle.kt_names.specs.Names.{numbered}
+use Rattle.kt_spacetime.specs.declared.named_rows.NamedRow.{NamedRow}
+use Rattle.kt_meaning.specs.Names.{numbered}
 use Rattle.kt_net.specs.Erasing.{rows_from}
 use Rattle.kt_net.proofs.Merged.{merged, merged_rows}
 use Rattle.kt_net.proofs.Sorting.{sorted_run}

@@ -1,6 +1,6 @@
 use Rattle.std.proofs.Common.{refl}
 use Rattle.kt_tables.specs.Peers.{count_peers}
-use Rattle.kt_seen.specs.CallTests.{must_take, must_roll, is_asked_in_checkpoint, checkpoint_label, is_asked_in_rollback, rollback_label}
+use Rattle.kt_machine.specs.CallTests.{must_take, must_roll, is_asked_in_checkpoint, checkpoint_label, is_asked_in_rollback, rollback_label}
 use Rattle.kt_net.proofs.worked.worked_nets.Goals as goal
 
 pub returns-clause-two : goal.returns-clause-two

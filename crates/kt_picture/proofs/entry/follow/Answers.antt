@@ -1,7 +1,7 @@
 use Rattle.std.proofs.Common.{◌∙◌, ◌<◌, ◌++◌, ◌∷◌, [], arith, length, sym}
 use Rattle.std.proofs.lemmas.List.{length-set}
 use Rattle.std.proofs.lemmas.Option.{slice_get-get_or, slice_get_within}
-use Rattle.kt_cuts.proofs.Items.{get_set_other, set_mapped}
+use Rattle.kt_meaning.proofs.Items.{get_set_other, set_mapped}
 use Rattle.kt_picture.specs.Followed.{IsFollowed, plain_of}
 use Rattle.kt_picture.proofs.DiagramFacts.{set_each}
 use Rattle.kt_picture.proofs.entry.follow.Goals as goal

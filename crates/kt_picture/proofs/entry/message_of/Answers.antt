@@ -1,5 +1,5 @@
 use Rattle.std.proofs.Common.{◌++◌, ◌∷◌, [], ℕ, Option, sym, subst}
-use Rattle.kt_cuts.proofs.LegalLogs.{legal_last}
+use Rattle.kt_meaning.proofs.LegalLogs.{legal_last}
 use Rattle.kt_picture.specs.Followed.{IsFollowedAs, message_taken}
 use Rattle.kt_picture.proofs.FollowedFacts.{sent_as, unsent_in}
 use Rattle.kt_picture.proofs.entry.message_of.Goals as goal

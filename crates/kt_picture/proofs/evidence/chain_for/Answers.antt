@@ -1,6 +1,6 @@
 use Rattle.std.proofs.Common.{◌∙◌, ◌==◌, ℕ, List, Option, ap}
 use Rattle.std.specs.Prelude.{find}
-use Rattle.kt_chain.specs.declared.certificate.Certificate.{Certificate}
+use Rattle.kt_spacetime.specs.declared.certificate.Certificate.{Certificate}
 use Rattle.kt_picture.specs.Evidence.{chain_listed, chain_of_member}
 use Rattle.kt_picture.proofs.evidence.chain_for.Goals as goal
 

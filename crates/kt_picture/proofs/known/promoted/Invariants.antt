@@ -1,6 +1,6 @@
 use Rattle.std.proofs.Common.{◌≡◌, ◌≤◌, ◌<◌, ℕ, List, length, get_or}
 use Rattle.kt_spacetime.specs.declared.event.Event.{Event}
-use Rattle.kt_cuts.specs.Past.{past}
+use Rattle.kt_meaning.specs.Past.{past}
 use Rattle.kt_walk.specs.WalkOf.{WalkOf}
 use Rattle.kt_picture.specs.KnownAtRow.{place_after}
 use Rattle.kt_picture.proofs.known.promoted.Given as goal

@@ -1,7 +1,7 @@
 use Rattle.std.proofs.Common.{◌≡◌, ◌∙◌, ◌+◌, List, ap, take, drop, arith}
 use Rattle.kt_spacetime.specs.declared.event.Event.{Event}
 use Rattle.kt_spacetime.specs.Events.{process_of}
-use Rattle.kt_cuts.specs.Past.{past}
+use Rattle.kt_meaning.specs.Past.{past}
 use Rattle.kt_picture.specs.KnownAtRow.{seen_before}
 use Rattle.kt_picture.specs.Window.{shown_of}
 use Rattle.kt_picture.proofs.LawFacts.{shown_count}

@@ -2,9 +2,9 @@ use Rattle.std.proofs.Common.{◌≡◌, ◌≢◌, ◌∙◌, ◌+◌, Bool, tr
 use Rattle.std.specs.Prelude.{◌↔◌}
 use Rattle.kt_spacetime.specs.declared.event.Event.{Event}
 use Rattle.kt_spacetime.specs.declared.event.Event.TheVariants.{Took, Ready}
-use Rattle.kt_cuts.specs.Past.{past}
-use Rattle.kt_cuts.proofs.RowRules.{may_take, may_get_ready}
-use Rattle.kt_cuts.proofs.Traced.{next_unbroken}
+use Rattle.kt_meaning.specs.Past.{past}
+use Rattle.kt_meaning.proofs.RowRules.{may_take, may_get_ready}
+use Rattle.kt_meaning.proofs.LegalLogs.{next_unbroken}
 use Rattle.kt_picture.specs.Fates.{joined_decision}
 use Rattle.kt_picture.specs.declared.looks.Outline.TheVariants.{Square, Triangle}
 use Rattle.kt_picture.specs.Looks.{class_text, outline_text}

@@ -1,6 +1,6 @@
 use Rattle.std.proofs.Common.{◌∙◌, ap}
-use Rattle.kt_cuts.specs.declared.deeds.Deed.TheVariants as deed
-use Rattle.kt_cuts.specs.Past.{past}
+use Rattle.kt_spacetime.specs.declared.deeds.Deed.TheVariants as deed
+use Rattle.kt_meaning.specs.Past.{past}
 use Rattle.kt_picture.specs.Fates.{has_no_receive}
 use Rattle.kt_picture.proofs.LawFacts.{no_place, trace_is}
 use Rattle.kt_picture.proofs.laws.unreceived_is_not_live.Goals as goal

@@ -1,6 +1,6 @@
 use Rattle.std.proofs.Common.{◌∙◌, List, ap, subst}
 use Rattle.kt_spacetime.specs.declared.event.Event.{Event}
-use Rattle.kt_certify.specs.Faults.{IsUnfit}
+use Rattle.kt_meaning.specs.Fitness.{IsUnfit}
 use Rattle.kt_program.specs.Certified.{text_of_list}
 use Rattle.kt_program.proofs.StoredLogs.{certified_rows, unfit_rows}
 use Rattle.kt_program.proofs.certified.certify_kept.Goals as goal

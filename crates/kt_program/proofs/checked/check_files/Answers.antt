@@ -1,5 +1,5 @@
 use Rattle.std.proofs.Common.{rules, []}
-use Rattle.kt_judge.specs.declared.answer.Answer.TheVariants.{Checked}
+use Rattle.kt_explain.specs.declared.answer.Answer.TheVariants.{Checked}
 use Rattle.kt_program.proofs.checked.check_files.Goals as goal
 
 pub returns-clause-answer : goal.returns-clause-answer

@@ -1,5 +1,5 @@
 use Rattle.std.proofs.Common.{map, subst, sym, ◌∙◌}
-use Rattle.kt_held.specs.Holdings.{content}
+use Rattle.kt_object.specs.Holdings.{content}
 use Rattle.kt_program.specs.Made.{IsFaultOverNew, order_by}
 use Rattle.kt_program.proofs.Casting.{are_new}
 use Rattle.kt_program.proofs.KeptRuns.{made_in_threads, made_serially}

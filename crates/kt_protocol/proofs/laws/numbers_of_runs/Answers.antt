@@ -2,7 +2,7 @@ use Rattle.std.proofs.Common.{subst, sym}
 use Rattle.kt_protocol.proofs.laws.numbers_of_runs.Goals as goal
 use Rattle.kt_protocol.proofs.LawfulSteps.{lawful_after_run}
 use Rattle.kt_protocol.proofs.Lawful.{tie}
-use Rattle.kt_cuts.specs.Past.{past}
+use Rattle.kt_meaning.specs.Past.{past}
 use Rattle.kt_protocol.proofs.KeptMessages.{kept_past_permanent}
 use Rattle.kt_protocol.proofs.StandsOnce.{stands_once}
 use Rattle.kt_protocol.proofs.MessageOrder.{live_rises}

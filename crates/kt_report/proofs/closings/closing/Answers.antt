@@ -1,6 +1,6 @@
 use Rattle.std.proofs.Common.{◌∙◌, length, refl, sym, Some, None}
 use Rattle.std.proofs.lemmas.Option.{slice_get_read, slice_get_past}
-use Rattle.kt_values.specs.Values.{closing}
+use Rattle.kt_machine.specs.Values.{closing}
 use Rattle.kt_report.proofs.InstanceFacts.{closing_known}
 use Rattle.kt_report.proofs.closings.closing.Goals as goal
 

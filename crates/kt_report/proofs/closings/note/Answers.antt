@@ -1,6 +1,6 @@
 use Rattle.std.proofs.Common.{refl, false}
-use Rattle.kt_cuts.proofs.LegalLogs.{legal_last, past_push, kept}
-use Rattle.kt_cuts.specs.Past.{past}
+use Rattle.kt_meaning.proofs.LegalLogs.{legal_last, past_push, kept}
+use Rattle.kt_meaning.specs.Past.{past}
 use Rattle.kt_spacetime.specs.declared.event.Event.TheVariants.{Decided}
 use Rattle.kt_report.proofs.InstanceFacts.{begins}
 use Rattle.kt_report.proofs.closings.note.Goals as goal

@@ -1,6 +1,6 @@
 use Rattle.std.proofs.Common.{◌++◌, ◌∷◌, [], refl}
-use Rattle.kt_cuts.specs.Past.{start}
-use Rattle.kt_cuts.proofs.LegalLogs.{legal_unbroken}
+use Rattle.kt_meaning.specs.Past.{start}
+use Rattle.kt_meaning.proofs.LegalLogs.{legal_unbroken}
 use Rattle.kt_report.proofs.losses.is_fed.Goals as goal
 
 pub returns-in-Err-Broken-clause-broken : goal.returns-in-Err-Broken-clause-broken

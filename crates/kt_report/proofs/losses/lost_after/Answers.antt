@@ -1,8 +1,8 @@
 use Rattle.std.proofs.Common.{arith, ◌≡◌, ◌∙◌, ◌+◌, ◌-◌, ℕ, sym, ap, cond, count_by, Bool, true, false}
 use Rattle.std.specs.Prelude.{slice_get}
 use Rattle.std.specs.List.{range_with_len}
-use Rattle.kt_cuts.specs.Past.{past}
-use Rattle.kt_cuts.proofs.Replayed.{row_read}
+use Rattle.kt_meaning.specs.Past.{past}
+use Rattle.kt_rules.proofs.Replayed.{row_read}
 use Rattle.kt_walk.specs.WalkOf.{WalkOf}
 use Rattle.kt_report.specs.Exact.{is_lost}
 use Rattle.kt_report.proofs.MessageFacts.{count-more}

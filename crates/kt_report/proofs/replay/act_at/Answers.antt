@@ -1,7 +1,7 @@
 use Rattle.std.proofs.Common.{◌∙◌, sym, ap}
-use Rattle.kt_cuts.specs.Past.{Past, past, is_rollback, is_committed}
-use Rattle.kt_values.specs.Values.{closing}
-use Rattle.kt_values.proofs.DoneAlong.{done_past}
+use Rattle.kt_meaning.specs.Past.{Past, past, is_rollback, is_committed}
+use Rattle.kt_machine.specs.Values.{closing}
+use Rattle.kt_machine.proofs.DoneAlong.{done_past}
 use Rattle.kt_report.proofs.replay.act_at.Goals as goal
 
 pub returns-in-Closed : goal.returns-in-Closed

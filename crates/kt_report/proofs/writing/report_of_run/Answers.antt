@@ -2,7 +2,7 @@ use Rattle.std.proofs.Common.{◌≡◌, ◌∙◌, List, ℕ, ap, subst, sym, m
 use Rattle.std.proofs.lemmas.Result.{on_ok_weaker, on_err_weaker}
 use Rattle.std.specs.Io.KnownBytes.{Appends}
 use Rattle.kt_plan.specs.Limits.{Planned}
-use Rattle.kt_cuts.specs.Legal.{IsLegal}
+use Rattle.kt_meaning.specs.Legal.{IsLegal}
 use Rattle.kt_text.specs.Writing.{WritesFront}
 use Rattle.kt_report.specs.declared.offers.Offers.{Offers}
 use Rattle.kt_report.specs.Exact.{lost_in}

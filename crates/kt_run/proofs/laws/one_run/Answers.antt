@@ -1,5 +1,5 @@
 use Rattle.std.proofs.Common.{[], refl}
-use Rattle.kt_plans.specs.Progress.{progress_at_start}
+use Rattle.kt_promises.specs.Progress.{progress_at_start}
 use Rattle.kt_run.specs.Objects.{rules_by}
 use Rattle.kt_run.proofs.OneRun.{same_end, same_rows}
 use Rattle.kt_run.proofs.laws.one_run.Goals as goal

@@ -1,8 +1,8 @@
 use Rattle.std.proofs.Common.{◌∙◌, refl}
-use Rattle.kt_plans.specs.Steps.{process_of_step, progress_after}
+use Rattle.kt_promises.specs.Steps.{process_of_step, progress_after}
 use Rattle.kt_system.specs.ShownActs.{acts_shown}
-use Rattle.kt_values.specs.Done.{done}
-use Rattle.kt_values.specs.Values.{due}
+use Rattle.kt_machine.specs.Done.{done}
+use Rattle.kt_machine.specs.Values.{due}
 use Rattle.kt_run.specs.Objects.{first_of, rules_of}
 use Rattle.kt_run.proofs.Acting.{acts_along_step, given_offer, others_along}
 use Rattle.kt_run.proofs.Holding.{holds_next, holds_still}

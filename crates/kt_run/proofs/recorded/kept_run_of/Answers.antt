@@ -1,7 +1,7 @@
 use Rattle.std.proofs.Common.{inl, inr, [], map, refl, subst, sym, ap}
 use Rattle.std.specs.Prelude.{slice_index_or}
 use Rattle.kt_core.specs.declared.faults.StepFault.TheVariants.{NotEnabled}
-use Rattle.kt_held.specs.Holdings.{content}
+use Rattle.kt_object.specs.Holdings.{content}
 use Rattle.kt_plan.specs.Limits.{Planned, IsPlan}
 use Rattle.kt_run.specs.Faults.{stopped_at}
 use Rattle.kt_run.specs.Hindered.{TellsHindrance}

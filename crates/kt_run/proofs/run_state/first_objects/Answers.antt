@@ -1,6 +1,6 @@
 use Rattle.std.proofs.Common.{◌∙◌, List, refl, sym, subst}
 use Rattle.std.proofs.lemmas.List.{length-map}
-use Rattle.kt_held.specs.Holdings.{content}
+use Rattle.kt_object.specs.Holdings.{content}
 use Rattle.kt_run.proofs.Casting.{answered, of_objects, of_none_told, of_object}
 use Rattle.kt_run.proofs.Holding.{hold_first, as_many_given}
 use Rattle.kt_run.specs.Rejections.{objects_held, RejectNoMore}

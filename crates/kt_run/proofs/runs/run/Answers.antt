@@ -4,7 +4,7 @@ use Rattle.std.specs.List.{AllZip}
 use Rattle.std.specs.Option.{option_map}
 use Rattle.std.proofs.lemmas.Option.{slice_get-map, slice_get-get_or}
 use Rattle.kt_core.specs.Worlds.{World}
-use Rattle.kt_held.specs.Holdings.{content}
+use Rattle.kt_object.specs.Holdings.{content}
 use Rattle.kt_plan.specs.Limits.{Planned, IsPlan}
 use Rattle.kt_plan.specs.declared.steps.Told.{Told}
 use Rattle.kt_run.specs.Faults.{stopped_at}

@@ -1,5 +1,5 @@
 use Rattle.std.proofs.Common.{◌≡◌, ◌<◌, ℕ, [], map, slice_index_or}
-use Rattle.kt_errands.specs.Errands.{errands_by}
+use Rattle.kt_threads.specs.Books.{errands_by}
 use Rattle.kt_threads.proofs.errands.all_agree.Given as goal
 
 abbrev pub invariant-loop-p : goal.invariant-loop-p

@@ -1,6 +1,6 @@
 use Rattle.std.proofs.Common.{◌∙◌, ◌++◌, [], ◌∷◌, ap}
-use Rattle.kt_errands.specs.declared.errand.Entry.{Entry}
-use Rattle.kt_plans.specs.Steps.{process_of_step}
+use Rattle.kt_threads.specs.declared.errand.Entry.{Entry}
+use Rattle.kt_promises.specs.Steps.{process_of_step}
 use Rattle.kt_threads.specs.declared.state.Made.{Made}
 use Rattle.kt_threads.proofs.Noting.{asked_next}
 use Rattle.kt_threads.proofs.errands.note_errand.Goals as goal

@@ -1,5 +1,5 @@
 use Rattle.std.proofs.Common.{refl}
-use Rattle.kt_held.specs.Holdings.{content}
+use Rattle.kt_object.specs.Holdings.{content}
 use Rattle.kt_run.proofs.Casting.{answered}
 use Rattle.kt_run.proofs.Holding.{hold_first}
 use Rattle.kt_run.proofs.Rejecting.{all_given, kinds_of}

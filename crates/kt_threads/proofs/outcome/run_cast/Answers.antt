@@ -1,6 +1,6 @@
 use Rattle.std.proofs.Common.{rules, ◌≡◌, [], inl, inr, map, subst}
 use Rattle.std.specs.Prelude.{Result, Err, IfErr, slice_index_or}
-use Rattle.kt_held.specs.Holdings.{content}
+use Rattle.kt_object.specs.Holdings.{content}
 use Rattle.kt_run.specs.Objects.{first_of}
 use Rattle.kt_run.specs.Rejections.{MayReject}
 use Rattle.kt_threads.proofs.Keeping.{due_then, run_then, settled_then}

@@ -1,4 +1,4 @@
-use Rattle.kt_held.specs.Holdings.{content}
+use Rattle.kt_object.specs.Holdings.{content}
 use Rattle.kt_threads.proofs.Working.{keeps_then}
 use Rattle.kt_threads.proofs.worker.work.Goals as goal
 use Rattle.kt_threads.proofs.worker.work.Goals.{in-None, in-Some+then-not-turn}

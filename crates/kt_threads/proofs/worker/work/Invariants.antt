@@ -1,4 +1,4 @@
-use Rattle.kt_held.specs.Holdings.{content}
+use Rattle.kt_object.specs.Holdings.{content}
 use Rattle.kt_threads.specs.Workers.{KeepsServing}
 use Rattle.kt_threads.proofs.worker.work.Given as goal
 

@@ -2,7 +2,7 @@ use Rattle.std.proofs.Common.{◌≡◌, length, refl, arith, inl, inr, sym, ap,
 use Rattle.std.specs.List.{slice_get}
 use Rattle.std.proofs.lemmas.Bool.{cases_eq}
 use Rattle.std.proofs.lemmas.Option.{slice_get_read, slice_get_within}
-use Rattle.kt_cuts.proofs.SortedFacts.{some_same}
+use Rattle.kt_meaning.proofs.Items.{some_same}
 use Rattle.kt_walk.proofs.HeldFacts.{missed}
 use Rattle.kt_walk.proofs.lookup.first_trace.Goals as goal
 

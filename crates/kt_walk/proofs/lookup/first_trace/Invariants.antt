@@ -1,7 +1,7 @@
 use Rattle.std.proofs.Common.{◌≡◌, ℕ, ◌<◌, Some}
 use Rattle.std.specs.List.{slice_get}
-use Rattle.kt_cuts.specs.declared.traces.Trace.{Trace}
-use Rattle.kt_transit.specs.TransitList.{IsBySend}
+use Rattle.kt_rules.specs.declared.traces.Trace.{Trace}
+use Rattle.kt_walk.specs.TransitList.{IsBySend}
 use Rattle.kt_walk.specs.Arrivals.{Has, AreRisingArrivals}
 use Rattle.kt_walk.specs.TraceEntries.{entries_of}
 use Rattle.kt_walk.specs.Pairs.{PairState}

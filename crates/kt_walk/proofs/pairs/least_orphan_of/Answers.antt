@@ -3,8 +3,8 @@ use Rattle.std.specs.List.{slice_get, slice_index}
 use Rattle.std.proofs.lemmas.Bool.{cases_eq, cases_lt}
 use Rattle.std.proofs.lemmas.Option.{slice_get_read, slice_get_within}
 use Rattle.kt_walk.specs.Pairs.{PairState}
-use Rattle.kt_cuts.proofs.SortedFacts.{some_same}
-use Rattle.kt_cuts.proofs.OrphanFacts.{some_earlier, some_weaker, at_most_first, at_most_second}
+use Rattle.kt_meaning.proofs.Items.{some_same}
+use Rattle.kt_rules.proofs.OrphanFacts.{some_earlier, some_weaker, at_most_first, at_most_second}
 use Rattle.kt_walk.proofs.ArrivalFacts.{KnowsLeast}
 use Rattle.kt_walk.proofs.ReceivedFacts.{IsOrphanOf}
 use Rattle.kt_walk.proofs.PairsFacts.{IsOrphanIn}

@@ -1,8 +1,8 @@
 use Rattle.std.proofs.Common.{◌≡◌, true, ℕ, ◌≤◌, ◌<◌, ◌-◌, Some, IfSome}
 use Rattle.std.specs.List.{slice_get, slice_index}
-use Rattle.kt_cuts.specs.Past.{Past}
-use Rattle.kt_cuts.specs.Orphans.{IsOrphanBetween, IsAtMost}
-use Rattle.kt_cuts.specs.Standing.{IsInOrder}
+use Rattle.kt_meaning.specs.Past.{Past}
+use Rattle.kt_rules.specs.Orphans.{IsOrphanBetween, IsAtMost}
+use Rattle.kt_rules.specs.Standing.{IsInOrder}
 use Rattle.kt_walk.specs.Arrivals.{ShowsReceived}
 use Rattle.kt_walk.specs.Pairs.{PairState}
 use Rattle.kt_walk.specs.Peers.{is_in}

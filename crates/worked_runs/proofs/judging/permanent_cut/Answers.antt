@@ -2,8 +2,8 @@ use Rattle.std.proofs.Common.{◌<◌, length, arith, ap, sym, inl, inr, ◌∙�
 use Rattle.std.proofs.lemmas.Bool.{cases_eq}
 use Rattle.std.proofs.lemmas.Grind.{get_or-set_at}
 use Rattle.std.proofs.lemmas.List.{get_or-set_other, length-set}
-use Rattle.kt_cuts.specs.Past.{past}
-use Rattle.kt_cuts.specs.Cuts.{permanent_cut}
+use Rattle.kt_meaning.specs.Past.{past}
+use Rattle.kt_meaning.specs.Cuts.{permanent_cut}
 use Rattle.worked_runs.proofs.judging.permanent_cut.Goals as goal
 
 pub loop-number-preserved : goal.loop-number-preserved

@@ -1,8 +1,8 @@
 use Rattle.std.proofs.Common.{◌≡◌, ◌<◌, ℕ, List, length}
 use Rattle.std.specs.List.{slice_index}
 use Rattle.kt_spacetime.specs.declared.event.Event.{Event}
-use Rattle.kt_cuts.specs.Past.{past}
-use Rattle.kt_cuts.specs.Cuts.{permanent_cut}
+use Rattle.kt_meaning.specs.Past.{past}
+use Rattle.kt_meaning.specs.Cuts.{permanent_cut}
 use Rattle.kt_walk.specs.WalkOf.{WalkOf}
 use Rattle.worked_runs.proofs.judging.permanent_cut.Given as goal
 

@@ -1,7 +1,7 @@
 use Rattle.std.proofs.Common.{◌≡◌, ◌+◌, ◌∷◌, ◌++◌, [], ℕ, length, sym, subst, arith}
-use Rattle.kt_cuts.specs.Past.{past}
+use Rattle.kt_meaning.specs.Past.{past}
 use Rattle.kt_checker.proofs.FirstPlaces.{none_of, some_of}
-use Rattle.kt_certify.specs.Faults.{IsFirstWithout}
+use Rattle.kt_meaning.specs.Fitness.{IsFirstWithout}
 use Rattle.kt_certify.specs.Stops.{StopsOn}
 use Rattle.kt_certify.specs.declared.fault.Stop.{Stop}
 use Rattle.kt_certify.proofs.Fit.{fit_so_far, still_without}

@@ -1,5 +1,5 @@
 use Rattle.std.proofs.Common.{◌≡◌, true}
-use Rattle.kt_certify.specs.Decisions.{is_commit}
+use Rattle.kt_meaning.specs.Decisions.{is_commit}
 use Rattle.kt_certify.proofs.Rows.{entered_more}
 use Rattle.kt_certify.proofs.pass.Pass.note.Goals as goal
 

@@ -1,6 +1,6 @@
 use Rattle.std.proofs.Common.{◌∙◌, ◌++◌, ◌∷◌, [], length, ap, sym, subst}
-use Rattle.kt_cuts.specs.Legal.{IsLegal}
-use Rattle.kt_cuts.proofs.Items.{written}
+use Rattle.kt_meaning.specs.Legal.{IsLegal}
+use Rattle.kt_meaning.proofs.Items.{written}
 use Rattle.kt_checker.specs.Gathered.{Gathered}
 use Rattle.kt_checker.proofs.Gathering.{gathered_sent, gathered_received, gathered_dropped, gathered_closed, gathered_failed, gathered_refused}
 use Rattle.kt_checker.proofs.decisions.Instances.add.Goals as goal

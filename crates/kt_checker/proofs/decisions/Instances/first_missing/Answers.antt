@@ -2,7 +2,7 @@ use Rattle.std.proofs.Common.{◌≡◌, ◌<◌, false, true, Some, length, sym
 use Rattle.std.specs.List.{slice_get}
 use Rattle.std.proofs.lemmas.Bool.{cases_eq}
 use Rattle.std.proofs.lemmas.Option.{get_or_from_slice_get, slice_get-get_or}
-use Rattle.kt_cuts.proofs.SortedFacts.{some_same}
+use Rattle.kt_meaning.proofs.Items.{some_same}
 use Rattle.kt_checker.specs.declared.decisions.Instance.{Instance}
 use Rattle.kt_checker.proofs.decisions.Instances.first_missing.Goals as goal
 

@@ -2,8 +2,8 @@ use Rattle.std.proofs.Common.{◌≡◌, ◌+◌, ℕ, Option, Some, None, lengt
 use Rattle.std.specs.List.{slice_get}
 use Rattle.std.proofs.lemmas.List.Elements.{All-replicate}
 use Rattle.std.proofs.lemmas.Option.{slice_get_read}
-use Rattle.kt_cuts.proofs.Items.{written}
-use Rattle.kt_chain.specs.declared.certificate.Certificate.{Certificate}
+use Rattle.kt_meaning.proofs.Items.{written}
+use Rattle.kt_spacetime.specs.declared.certificate.Certificate.{Certificate}
 use Rattle.kt_checker.specs.Judged.{AreFirsts}
 use Rattle.kt_checker.proofs.FirstPlaces.{none_yet, none_cloned}
 use Rattle.kt_checker.proofs.firsts.Firsts.of.Goals as goal

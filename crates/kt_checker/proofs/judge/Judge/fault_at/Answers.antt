@@ -2,9 +2,9 @@ use Rattle.std.proofs.Common.{◌≡◌, true, ◌++◌, ◌∷◌, [], Some, No
 use Rattle.std.specs.Option.{option_copied}
 use Rattle.std.proofs.lemmas.Option.{slice_get_within}
 use Rattle.kt_spacetime.specs.declared.event.Event.{Event}
-use Rattle.kt_cuts.specs.Standing.{at_number}
-use Rattle.kt_cuts.specs.Past.{past}
-use Rattle.kt_cuts.specs.Legal.{IsLegal, is_undecided}
+use Rattle.kt_rules.specs.Standing.{at_number}
+use Rattle.kt_meaning.specs.Past.{past}
+use Rattle.kt_meaning.specs.Legal.{IsLegal, is_undecided}
 use Rattle.kt_checker.specs.Judged.{IsFirstCertificate}
 use Rattle.kt_checker.specs.Gathered.{IsFinding}
 use Rattle.kt_checker.proofs.Judging.{found_of, decided_begun, undecided_before}

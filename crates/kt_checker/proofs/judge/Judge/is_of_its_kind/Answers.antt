@@ -1,6 +1,6 @@
 use Rattle.std.proofs.Common.{◌≡◌, Some, sym, ap, subst, ◌∙◌}
 use Rattle.std.specs.Option.{option_copied}
-use Rattle.kt_cuts.specs.Standing.{at_number}
+use Rattle.kt_rules.specs.Standing.{at_number}
 use Rattle.kt_checker.specs.Judged.{IsFirstCertificate}
 use Rattle.kt_checker.proofs.Judging.{kind_gathered}
 use Rattle.kt_checker.proofs.judge.Judge.is_of_its_kind.Goals as goal

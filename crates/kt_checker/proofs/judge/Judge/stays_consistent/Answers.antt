@@ -1,8 +1,8 @@
 use Rattle.std.proofs.Common.{◌≡◌, not, true, Some, None, sym, ap, subst, ◌∙◌}
-use Rattle.kt_cuts.specs.Past.{past, kind_of}
-use Rattle.kt_cuts.specs.Throughout.{LeavesConsistent}
+use Rattle.kt_meaning.specs.Past.{past, kind_of}
+use Rattle.kt_meaning.specs.Throughout.{LeavesConsistent}
 use Rattle.kt_checker.specs.Gathered.{IsFoundFirst}
-use Rattle.kt_checker.proofs.Chaining.{never}
+use Rattle.kt_rules.proofs.Traced.{never}
 use Rattle.kt_checker.proofs.FirstPlaces.{none_of}
 use Rattle.kt_checker.proofs.Judging.{decisions_more, leaves_of}
 use Rattle.kt_checker.proofs.judge.Judge.stays_consistent.Goals as goal

@@ -2,7 +2,7 @@ use Rattle.std.proofs.Common.{◌≡◌, ◌+◌, ◌≤◌, ◌∷◌, ◌++◌
 use Rattle.std.specs.List.{slice_get}
 use Rattle.std.proofs.lemmas.List.{map-append, take-take}
 use Rattle.std.proofs.lemmas.Option.{slice_get_read}
-use Rattle.kt_cuts.proofs.Items.{take_item}
+use Rattle.kt_meaning.proofs.Items.{take_item}
 use Rattle.kt_checker.specs.declared.path.Step.{Step}
 use Rattle.kt_checker.specs.Followed.{message_of}
 use Rattle.kt_checker.proofs.Links.{same_from}

@@ -2,7 +2,7 @@ use Rattle.std.specs.Prelude.{IsTrue, ◌↔◌}
 use Rattle.std.proofs.Common.{◌≡◌, ◌∙◌, Bool, false, List, subst, sym, rules}
 use Rattle.kt_spacetime.specs.declared.event.Event.{Event}
 use Rattle.kt_plan.specs.declared.steps.Step.{Step}
-use Rattle.kt_plans.specs.Follows.{FollowsPlan}
+use Rattle.kt_meaning.specs.Follows.{FollowsPlan}
 use Rattle.kt_core.specs.Worlds.{World, can_make, IsWorldAtRest}
 use Rattle.kt_core.specs.Shown.{IsReached}
 use Rattle.kt_core.specs.PlanLaws.{PlanLaws}

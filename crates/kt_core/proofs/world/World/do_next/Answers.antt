@@ -4,9 +4,9 @@ use Rattle.std.proofs.lemmas.Option.{slice_get_within}
 use Rattle.kt_plan.specs.Limits.{Planned}
 use Rattle.kt_plan.specs.declared.steps.Step.TheVariants.{Do}
 use Rattle.kt_system.specs.ShownActs.{acts_shown}
-use Rattle.kt_plans.specs.Progress.{Progress}
-use Rattle.kt_plans.specs.Steps.{enabled, progress_after}
-use Rattle.kt_plans.specs.Tallies.{tallies_after}
+use Rattle.kt_promises.specs.Progress.{Progress}
+use Rattle.kt_promises.specs.Steps.{enabled, progress_after}
+use Rattle.kt_promises.specs.Tallies.{tallies_after}
 use Rattle.kt_core.specs.Shown.{Mirrors}
 use Rattle.kt_core.specs.Agendas.{agenda_place, IsNextOf}
 use Rattle.kt_core.specs.Making.{MakesStep}

@@ -1,6 +1,6 @@
 use Rattle.std.proofs.Common.{◌≡◌, true, false, Some, sym, subst, rules}
 use Rattle.kt_plan.specs.declared.steps.Step.{Step}
-use Rattle.kt_plans.specs.Hindrances.{hindrance}
+use Rattle.kt_promises.specs.Hindrances.{hindrance}
 use Rattle.kt_core.specs.Worlds.{can_make}
 use Rattle.kt_core.proofs.Hindrances.{nothing, no_parcel}
 use Rattle.kt_core.proofs.world.World.hindrance.Goals as goal

@@ -1,8 +1,8 @@
 use Rattle.std.proofs.Common.{subst, sym, List}
 use Rattle.kt_spacetime.specs.declared.event.Event.{Event}
 use Rattle.kt_spacetime.specs.Logs.{Log}
-use Rattle.kt_plans.specs.Follows.{BeginsPlan}
-use Rattle.kt_plans.specs.Headline.{IsCertified, IsPromised}
+use Rattle.kt_meaning.specs.Follows.{BeginsPlan}
+use Rattle.kt_meaning.specs.Promised.{IsCertified, IsPromised}
 use Rattle.kt_core.specs.Worlds.{World}
 use Rattle.kt_core.proofs.world.World.into_log.Goals as goal
 

@@ -3,9 +3,9 @@ use Rattle.kt_plan.specs.Limits.{Planned, IsPlan}
 use Rattle.kt_plan.specs.declared.steps.Look.{Look}
 use Rattle.kt_plan.specs.declared.steps.Look.TheVariants.{Idle}
 use Rattle.kt_plan.specs.declared.steps.Step.{Step}
-use Rattle.kt_plans.specs.Looks as run_looks
-use Rattle.kt_plans.specs.Progress.{Progress}
-use Rattle.kt_plans.specs.Runs.{RunReaches}
+use Rattle.kt_promises.specs.Looks as run_looks
+use Rattle.kt_promises.specs.Progress.{Progress}
+use Rattle.kt_promises.specs.Runs.{RunReaches}
 use Rattle.kt_core.specs.Looked.{TellsOfStep}
 use Rattle.kt_core.specs.PlanLaws.{PlanLaws}
 use Rattle.kt_core.specs.Shown.{Mirrors}

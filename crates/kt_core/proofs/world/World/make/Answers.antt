@@ -3,12 +3,12 @@ use Rattle.kt_plan.specs.Limits.{Planned, IsPlan}
 use Rattle.std.proofs.Common.{◌∙◌, ℕ, List, arith, sym, subst, refl, slice_index_or}
 use Rattle.kt_process.specs.Turns.{IsFresh}
 use Rattle.kt_system.specs.Systems.{state_of}
-use Rattle.kt_seen.specs.Transition.{opening_seen}
+use Rattle.kt_machine.specs.Transition.{opening_seen}
 use Rattle.kt_system.specs.Shown.{ShowsState}
-use Rattle.kt_plans.specs.Progress.{progress_at_start}
+use Rattle.kt_promises.specs.Progress.{progress_at_start}
 use Rattle.kt_core.specs.Agendas.{IsNextOf, agenda_place}
 use Rattle.kt_core.specs.Shown.{Mirrors}
-use Rattle.kt_plans.specs.Tallies.{no_tallies}
+use Rattle.kt_promises.specs.Tallies.{no_tallies}
 use Rattle.kt_core.proofs.Leading.{start_leads, start_puts}
 use Rattle.kt_core.proofs.Phases.{least_stays}
 use Rattle.kt_core.proofs.world.World.make.Goals as goal

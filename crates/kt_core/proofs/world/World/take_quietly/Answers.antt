@@ -6,16 +6,16 @@ use Rattle.kt_plan.specs.declared.steps.Look.TheVariants.{Plain}
 use Rattle.std.specs.Prelude.{pos}
 use Rattle.kt_plan.specs.declared.steps.Step.TheVariants.{Take}
 use Rattle.kt_protocol.specs.States as machine
-use Rattle.kt_seen.specs.Transition.{transition}
-use Rattle.kt_values.specs.SeenActs.{seen_acts}
-use Rattle.kt_values.specs.Values.{Act}
+use Rattle.kt_machine.specs.Transition.{transition}
+use Rattle.kt_machine.specs.SeenActs.{seen_acts}
+use Rattle.kt_machine.specs.Values.{Act}
 use Rattle.kt_system.specs.Shown.{ShowsState}
 use Rattle.kt_system.specs.Systems.{Whole}
 use Rattle.kt_system.specs.Reads.{would_save}
-use Rattle.kt_plans.specs.Looks.{look}
-use Rattle.kt_plans.specs.Progress.{Progress}
-use Rattle.kt_plans.specs.Steps.{enabled, progress_after}
-use Rattle.kt_plans.specs.Tallies.{tallies_after}
+use Rattle.kt_promises.specs.Looks.{look}
+use Rattle.kt_promises.specs.Progress.{Progress}
+use Rattle.kt_promises.specs.Steps.{enabled, progress_after}
+use Rattle.kt_promises.specs.Tallies.{tallies_after}
 use Rattle.kt_core.specs.Agendas.{Agenda}
 use Rattle.kt_core.specs.Shown.{Mirrors}
 use Rattle.kt_core.specs.Making.{MakesStep}

@@ -1,8 +1,8 @@
 use Rattle.std.proofs.Common.{◌∷◌, ◌++◌, [], List, Result, Ok, Err}
 use Rattle.std.specs.Result.{OnOk}
 use Rattle.kt_spacetime.specs.declared.event.Event.{Event}
-use Rattle.kt_cuts.proofs.LegalLogs.{legal_last}
-use Rattle.kt_cuts.specs.Past.{past}
+use Rattle.kt_meaning.proofs.LegalLogs.{legal_last}
+use Rattle.kt_meaning.specs.Past.{past}
 use Rattle.kt_histories.proofs.Replayed.{replayed}
 use Rattle.kt_histories.proofs.histories.Histories.add.Goals as goal
 

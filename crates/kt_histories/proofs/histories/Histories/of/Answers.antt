@@ -1,10 +1,9 @@
 use Rattle.std.proofs.Common.{◌+◌, take, refl, subst, sym}
-use Rattle.kt_cuts.specs.Legal.{IsLegal}
-use Rattle.kt_cuts.proofs.Items.{take_item}
-use Rattle.kt_cuts.proofs.LegalLogs.{legal_take}
-use Rattle.kt_cuts.proofs.Replayed.{row_read}
+use Rattle.kt_meaning.specs.Legal.{IsLegal}
+use Rattle.kt_meaning.proofs.Items.{take_item}
+use Rattle.kt_meaning.proofs.LegalLogs.{legal_take, next_unbroken}
+use Rattle.kt_rules.proofs.Replayed.{row_read}
 use Rattle.kt_histories.proofs.Replayed.{replayed}
-use Rattle.kt_cuts.proofs.Traced.{next_unbroken}
 use Rattle.kt_histories.proofs.histories.Histories.of.Goals as goal
 
 pub loop-row-preserved : goal.loop-row-preserved

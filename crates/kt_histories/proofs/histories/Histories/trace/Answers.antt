@@ -1,5 +1,5 @@
 use Rattle.std.proofs.Common.{sym, ◌∙◌}
-use Rattle.kt_cuts.specs.Past.{past}
+use Rattle.kt_meaning.specs.Past.{past}
 use Rattle.kt_histories.proofs.Traced.{trace_none, trace_some}
 use Rattle.kt_histories.proofs.histories.Histories.trace.Goals as goal
 

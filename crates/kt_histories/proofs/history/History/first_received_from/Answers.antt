@@ -1,6 +1,6 @@
 use Rattle.std.proofs.Common.{sym, ◌∙◌}
 use Rattle.std.proofs.lemmas.Option.{slice_get_read}
-use Rattle.kt_cuts.proofs.SortedFacts.{some_same}
+use Rattle.kt_meaning.proofs.Items.{some_same}
 use Rattle.kt_histories.proofs.history.History.first_received_from.Goals as goal
 
 pub returns : goal.returns

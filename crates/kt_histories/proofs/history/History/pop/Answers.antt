@@ -1,6 +1,6 @@
 use Rattle.std.proofs.Common.{sym, ◌∙◌, ap, arith, ◌++◌, ◌∷◌, []}
 use Rattle.std.proofs.lemmas.Option.{slice_get_read}
-use Rattle.kt_cuts.specs.declared.deeds.Deed.{Deed}
+use Rattle.kt_spacetime.specs.declared.deeds.Deed.{Deed}
 use Rattle.kt_histories.proofs.SortedFacts.{sorted_without_send, sorted_without_receive, none_last}
 use Rattle.kt_histories.proofs.history.History.pop.Goals as goal
 

@@ -1,5 +1,5 @@
 use Rattle.std.proofs.Common.{◌≡◌, sym, ap, ◌∙◌, length}
-use Rattle.kt_cuts.proofs.Items.{written}
+use Rattle.kt_meaning.proofs.Items.{written}
 use Rattle.kt_histories.proofs.InstanceSteps.{decides_abort, decides_checkpoint, decides_rollback}
 use Rattle.kt_histories.proofs.replay.Replay.decide.Goals as goal
 

@@ -1,9 +1,9 @@
 use Rattle.std.proofs.Common.{ℕ, if◌then◌else◌, Some, None, inl, inr, sym, subst, take}
 use Rattle.std.specs.List.{Contains, slice_index}
 use Rattle.std.proofs.lemmas.List.{take_all}
-use Rattle.kt_cuts.specs.Orphans.{IsOrphanBetween, IsAtMost}
+use Rattle.kt_rules.specs.Orphans.{IsOrphanBetween, IsAtMost}
 use Rattle.kt_histories.proofs.MessageTables.{contains_more}
-use Rattle.kt_cuts.proofs.OrphanFacts.{some_earlier, at_most_first, at_most_second}
+use Rattle.kt_rules.proofs.OrphanFacts.{some_earlier, at_most_first, at_most_second}
 use Rattle.kt_histories.proofs.OrphanFacts.{IsOrphanShown, some_if, at_most_if}
 use Rattle.kt_histories.proofs.replay.Replay.first_dead.Goals as goal
 

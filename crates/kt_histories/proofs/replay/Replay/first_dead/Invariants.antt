@@ -1,7 +1,7 @@
 use Rattle.std.proofs.Common.{ℕ, IfSome, take}
 use Rattle.std.specs.List.{slice_index, Contains}
-use Rattle.kt_cuts.specs.Past.{Past}
-use Rattle.kt_cuts.specs.Orphans.{IsOrphanBetween, IsAtMost}
+use Rattle.kt_meaning.specs.Past.{Past}
+use Rattle.kt_rules.specs.Orphans.{IsOrphanBetween, IsAtMost}
 use Rattle.kt_histories.specs.Standing.{ShowsPast}
 use Rattle.kt_histories.proofs.replay.Replay.first_dead.Given as goal
 

@@ -1,9 +1,9 @@
 use Rattle.std.proofs.Common.{◌≡◌, ℕ, ◌<◌, true, IfSome}
 use Rattle.std.specs.List.{slice_index}
-use Rattle.kt_cuts.specs.declared.deeds.Deed.TheVariants as deed
-use Rattle.kt_cuts.specs.Past.{Past}
-use Rattle.kt_cuts.specs.Legal.{has_deed}
-use Rattle.kt_cuts.specs.Orphans.{IsOrphanBetween, IsAtMost}
+use Rattle.kt_spacetime.specs.declared.deeds.Deed.TheVariants as deed
+use Rattle.kt_meaning.specs.Past.{Past}
+use Rattle.kt_meaning.specs.Legal.{has_deed}
+use Rattle.kt_rules.specs.Orphans.{IsOrphanBetween, IsAtMost}
 use Rattle.kt_histories.specs.Standing.{ShowsPast}
 use Rattle.kt_histories.proofs.replay.Replay.first_of_receiver.Given as goal
 

@@ -1,11 +1,11 @@
 use Rattle.std.proofs.Common.{◌≡◌, ℕ, ◌<◌, true, inl, inr, arith, sym, subst, ◌∙◌}
 use Rattle.std.specs.List.{slice_index}
 use Rattle.std.proofs.lemmas.Bool.{cases_eq}
-use Rattle.kt_cuts.specs.declared.deeds.Deed.TheVariants as deed
-use Rattle.kt_cuts.specs.Legal.{has_deed}
-use Rattle.kt_cuts.specs.Orphans.{IsOrphanBetween}
+use Rattle.kt_spacetime.specs.declared.deeds.Deed.TheVariants as deed
+use Rattle.kt_meaning.specs.Legal.{has_deed}
+use Rattle.kt_rules.specs.Orphans.{IsOrphanBetween}
 use Rattle.kt_histories.proofs.InstanceSteps.{below}
-use Rattle.kt_cuts.proofs.OrphanFacts.{some_earlier, some_weaker, at_most_first, at_most_second, received_of}
+use Rattle.kt_rules.proofs.OrphanFacts.{some_earlier, some_weaker, at_most_first, at_most_second, received_of}
 use Rattle.kt_histories.proofs.OrphanFacts.{IsOrphanShown, IsOrphanShownOf, least_of_all}
 use Rattle.kt_histories.proofs.replay.Replay.first_orphan.Goals as goal
 

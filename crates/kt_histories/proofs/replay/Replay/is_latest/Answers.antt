@@ -1,5 +1,5 @@
 use Rattle.std.proofs.Common.{sym, ap, ◌∙◌}
-use Rattle.kt_cuts.specs.Tests.{is_after}
+use Rattle.kt_rules.specs.Tests.{is_after}
 use Rattle.kt_histories.proofs.LatestFacts.{latest_known, and_then, and_else}
 use Rattle.kt_histories.proofs.replay.Replay.is_latest.Goals as goal
 

@@ -1,7 +1,7 @@
 use Rattle.std.proofs.Common.{◌&&◌, not, Bool, sym, ap, ◌∙◌}
 use Rattle.std.specs.List.{slice_index}
-use Rattle.kt_cuts.specs.declared.deeds.Deed.TheVariants as deed
-use Rattle.kt_cuts.specs.Orphans.{is_within}
+use Rattle.kt_spacetime.specs.declared.deeds.Deed.TheVariants as deed
+use Rattle.kt_rules.specs.Orphans.{is_within}
 use Rattle.kt_histories.proofs.OrphanFacts.{orphan_test, within_part}
 use Rattle.kt_histories.proofs.replay.Replay.is_orphan.Goals as goal
 

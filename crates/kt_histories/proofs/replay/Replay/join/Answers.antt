@@ -1,6 +1,6 @@
 use Rattle.std.proofs.Common.{◌≡◌, arith, sym, ap, ◌∙◌, ◌<◌, length}
 use Rattle.std.proofs.lemmas.Option.{slice_get_read}
-use Rattle.kt_cuts.proofs.Items.{written}
+use Rattle.kt_meaning.proofs.Items.{written}
 use Rattle.kt_histories.proofs.InstanceSteps.{shows_took, shows_ready, took_there, ready_there}
 use Rattle.kt_histories.proofs.replay.Replay.join.Goals as goal
 

@@ -1,5 +1,5 @@
 use Rattle.std.proofs.Common.{arith, ◌≡◌, ◌∙◌, length, ap, subst, sym}
-use Rattle.kt_part_text.specs.Reading.{part_unread}
+use Rattle.kt_merge.specs.Reading.{part_unread}
 use Rattle.kt_merge.specs.Merging.{ArePartsUnread}
 use Rattle.kt_merge.proofs.PartFacts.{unread_push}
 use Rattle.kt_merge.proofs.parts.Parts.push.Goals as goal

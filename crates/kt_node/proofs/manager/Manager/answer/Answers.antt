@@ -1,10 +1,10 @@
 use Rattle.std.proofs.Common.{◌∙◌, ℕ, [], ap, subst}
 use Rattle.std.specs.Prelude.{Option, Some}
-use Rattle.kt_cuts.specs.Past.{at_one}
-use Rattle.kt_parts.specs.declared.actions.Action.{Action}
-use Rattle.kt_seen.specs.SeenJoining.{no_note}
+use Rattle.kt_meaning.specs.Past.{at_one}
+use Rattle.kt_process.specs.declared.actions.Action.{Action}
+use Rattle.kt_machine.specs.SeenJoining.{no_note}
 use Rattle.kt_process.specs.Shown.{HearsAs, IsProcessJoined}
-use Rattle.kt_names.specs.declared.names.InstName.{InstName}
+use Rattle.kt_spacetime.specs.declared.names.InstName.{InstName}
 use Rattle.kt_net.specs.Nodes.{Doing}
 use Rattle.kt_node.specs.Effects.{IsDone}
 use Rattle.kt_node.specs.Managers.{number_for, process_of}

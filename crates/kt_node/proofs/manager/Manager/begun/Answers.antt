@@ -1,12 +1,12 @@
 use Rattle.std.proofs.Common.{◌∙◌, ◌+◌, [], ◌∷◌, sym, ap, ap₂, subst}
 use Rattle.std.specs.Prelude.{Option, None}
 use Rattle.kt_base.specs.declared.words.Verb.{Verb}
-use Rattle.kt_parts.specs.declared.actions.Action.{Action}
-use Rattle.kt_seen.specs.SeenJoining.{no_note}
+use Rattle.kt_process.specs.declared.actions.Action.{Action}
+use Rattle.kt_machine.specs.SeenJoining.{no_note}
 use Rattle.kt_process.specs.Shown.{BeginsAs, IsProcessJoined, label_by}
-use Rattle.kt_names.specs.declared.names.InstName.{InstName}
-use Rattle.kt_names.specs.declared.rows.NamedCause.{NamedCause}
-use Rattle.kt_names.specs.declared.rows.NamedEvent.TheVariants.{Began}
+use Rattle.kt_spacetime.specs.declared.names.InstName.{InstName}
+use Rattle.kt_spacetime.specs.declared.named_rows.NamedCause.{NamedCause}
+use Rattle.kt_spacetime.specs.declared.named_rows.NamedEvent.TheVariants.{Began}
 use Rattle.kt_net.specs.Nodes.{Doing}
 use Rattle.kt_net.specs.NodeClosing.{settling}
 use Rattle.kt_net.specs.NodeMessages.{refusing}

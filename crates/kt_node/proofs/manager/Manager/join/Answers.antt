@@ -1,7 +1,7 @@
 use Rattle.std.proofs.Common.{◌≡◌, ◌∙◌, ◌++◌, List, Bool, true, sym, ap, ap₂, subst}
 use Rattle.std.specs.Prelude.{Some, None}
-use Rattle.kt_parts.specs.declared.actions.Then.TheVariants.{Wait, Answer, Commit}
-use Rattle.kt_values.specs.Values.{Act, closing as acts_of_closing}
+use Rattle.kt_process.specs.declared.actions.Then.TheVariants.{Wait, Answer, Commit}
+use Rattle.kt_machine.specs.Values.{Act, closing as acts_of_closing}
 use Rattle.kt_process.specs.Shown.{IsSeenAs}
 use Rattle.kt_system.proofs.Closing.{ready_is}
 use Rattle.kt_node.specs.Managers.{ManagerState, HoldsFor, process_of}

@@ -2,7 +2,7 @@ use Rattle.std.proofs.Common.{sym, subst}
 use Rattle.std.specs.Prelude.{None}
 use Rattle.kt_process.specs.ProcessStates.{ProcessState}
 use Rattle.kt_process.specs.Shown.{IsSeenAs}
-use Rattle.kt_seen.specs.Seen.{SeenProcess}
+use Rattle.kt_machine.specs.Seen.{SeenProcess}
 use Rattle.kt_node.specs.Managers.{ManagerState, HoldsFor, process_of, after_closing}
 use Rattle.kt_node.proofs.Processes.{inside, closed_is, closed_inst}
 use Rattle.kt_node.proofs.Lists.{holds_as}

@@ -1,6 +1,6 @@
 use Rattle.std.proofs.Common.{refl, ap}
 use Rattle.kt_process.specs.Shown.{inst_shown, part_shown}
-use Rattle.kt_seen.specs.Seen.{SeenLists}
+use Rattle.kt_machine.specs.Seen.{SeenLists}
 use Rattle.kt_node.proofs.Lists.{column}
 use Rattle.kt_node.proofs.manager.Manager.new.Goals as goal
 

@@ -5,7 +5,7 @@ use Rattle.kt_fifo.specs.declared.parcels.Parcel.{Parcel}
 use Rattle.kt_fifo.specs.declared.parcels.Parcel.TheVariants as parcel
 use Rattle.kt_fifo.specs.Channels.{channel, at_pair}
 use Rattle.kt_tables.specs.Calls.{received, Speaks}
-use Rattle.kt_seen.specs.Seen.{SeenProcess}
+use Rattle.kt_machine.specs.Seen.{SeenProcess}
 use Rattle.kt_process.specs.Shown.{IsSeenAs}
 use Rattle.kt_node.proofs.Processes.{shows_inside}
 use Rattle.kt_node.proofs.Messages.{receives}

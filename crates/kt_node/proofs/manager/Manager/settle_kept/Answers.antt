@@ -1,9 +1,9 @@
 use Rattle.std.proofs.Common.{◌≡◌, ◌∙◌, ◌≤◌, ℕ, true, false, sym, ap, arith}
 use Rattle.std.specs.Prelude.{Option}
 use Rattle.kt_fifo.specs.Channels.{channel}
-use Rattle.kt_lists.specs.Kept.{put_back}
-use Rattle.kt_lists.proofs.Ranges.{back_all, gone_all}
-use Rattle.kt_seen.specs.ListChanges.{trims}
+use Rattle.kt_system.specs.Kept.{put_back}
+use Rattle.kt_system.proofs.Ranges.{back_all, gone_all}
+use Rattle.kt_machine.specs.ListChanges.{trims}
 use Rattle.kt_process.specs.Shown.{mark_of}
 use Rattle.kt_system.proofs.Closing.{ready_is, noted_is, marks_are}
 use Rattle.kt_node.proofs.Processes.{shows_inside}

@@ -1,6 +1,6 @@
 use Rattle.std.proofs.Common.{◌∙◌, sym, ap}
 use Rattle.std.specs.Prelude.{Option}
-use Rattle.kt_names.specs.declared.names.InstName.{InstName}
+use Rattle.kt_spacetime.specs.declared.names.InstName.{InstName}
 use Rattle.kt_net.specs.NodeSteps.{is_in}
 use Rattle.kt_node.proofs.Messages.{shows_same}
 use Rattle.kt_node.proofs.Replying.{in_some, done_decided}

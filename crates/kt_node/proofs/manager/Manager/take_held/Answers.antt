@@ -1,7 +1,7 @@
 use Rattle.std.proofs.Common.{ℤ, drop, ◌∙◌, sym, subst, rules}
 use Rattle.std.specs.Int.{w64}
 use Rattle.std.proofs.lemmas.Int.{to_z-of_z}
-use Rattle.kt_cuts.specs.Past.{at_one}
+use Rattle.kt_meaning.specs.Past.{at_one}
 use Rattle.kt_tables.specs.Calls.{Speaks}
 use Rattle.kt_net.specs.Nodes.{NodeState}
 use Rattle.kt_net.specs.NodeMessages.{arriving}

@@ -7,7 +7,7 @@ use Rattle.std.proofs.lemmas.Int.{to_z-of_z}
 use Rattle.kt_fifo.specs.declared.parcels.Parcel.{Parcel}
 use Rattle.kt_fifo.specs.declared.parcels.Parcel.TheVariants as parcel
 use Rattle.kt_fifo.specs.Channels.{channel, at_pair}
-use Rattle.kt_seen.specs.Seen.{SeenLists}
+use Rattle.kt_machine.specs.Seen.{SeenLists}
 use Rattle.kt_node.proofs.Processes.{shows_inside}
 use Rattle.kt_node.proofs.Messages.{shows_same, shows_holding, done_holding, done_arriving}
 use Rattle.kt_node.proofs.manager.Manager.take_message.Goals as goal

@@ -1,7 +1,7 @@
 use Rattle.std.proofs.Common.{◌∙◌, sym, ap, subst}
 use Rattle.std.specs.Prelude.{Option}
-use Rattle.kt_parts.specs.declared.actions.Action.{Action}
-use Rattle.kt_names.specs.declared.names.InstName.{InstName}
+use Rattle.kt_process.specs.declared.actions.Action.{Action}
+use Rattle.kt_spacetime.specs.declared.names.InstName.{InstName}
 use Rattle.kt_net.specs.Nodes.{Doing}
 use Rattle.kt_net.specs.NodeSteps.{is_in}
 use Rattle.kt_node.specs.Effects.{IsDone}

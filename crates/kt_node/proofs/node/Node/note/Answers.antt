@@ -1,6 +1,6 @@
 use Rattle.std.proofs.Common.{◌∙◌, ℕ, ◌≤◌, arith, ap₂, subst, sym, rules}
 use Rattle.std.specs.Prelude.{slice_index}
-use Rattle.kt_cuts.specs.Past.{at_one}
+use Rattle.kt_meaning.specs.Past.{at_one}
 use Rattle.kt_node.specs.Links.{NodeLinks}
 use Rattle.kt_node.proofs.Counts.{set_each, set_within}
 use Rattle.kt_node.proofs.node.Node.note.Goals as goal

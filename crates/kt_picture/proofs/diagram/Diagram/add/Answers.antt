@@ -1,8 +1,8 @@
 use Rattle.std.proofs.Common.{◌≡◌, ◌∙◌, ◌++◌, ◌∷◌, [], ℕ, Option, List, ap, arith, length, map, subst, sym}
 use Rattle.std.proofs.lemmas.List.{length-map, length_push}
-use Rattle.kt_cuts.specs.Past.{Past}
-use Rattle.kt_cuts.proofs.Items.{written}
-use Rattle.kt_cuts.proofs.LegalLogs.{legal_last, rows_length}
+use Rattle.kt_meaning.specs.Past.{Past}
+use Rattle.kt_meaning.proofs.Items.{written}
+use Rattle.kt_meaning.proofs.LegalLogs.{legal_last, rows_length}
 use Rattle.kt_picture.specs.declared.entry.Entry.{Entry}
 use Rattle.kt_picture.specs.declared.shown.Shown.{Shown}
 use Rattle.kt_picture.specs.DiagramOf.{seen_in}

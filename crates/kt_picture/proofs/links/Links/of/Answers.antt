@@ -2,7 +2,7 @@ use Rattle.std.proofs.Common.{◌≡◌, ◌∙◌, ℕ, suc, Option, Some, None
 use Rattle.std.specs.List.{slice_get}
 use Rattle.std.specs.Option.{option_or}
 use Rattle.std.proofs.lemmas.Option.{slice_get_read}
-use Rattle.kt_cuts.proofs.Items.{written}
+use Rattle.kt_meaning.proofs.Items.{written}
 use Rattle.kt_picture.specs.Evidence.{has_chained}
 use Rattle.kt_picture.proofs.LinkFacts.{chained_more}
 use Rattle.kt_picture.proofs.links.Links.of.Goals as goal

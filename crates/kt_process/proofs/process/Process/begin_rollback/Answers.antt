@@ -4,15 +4,15 @@ use Rattle.kt_base.specs.declared.words.Kind.TheVariants as kind
 use Rattle.kt_tables.specs.Calls.{Call}
 use Rattle.kt_tables.specs.Standing.{TablesStandFor}
 use Rattle.kt_tables.specs.States.{State}
-use Rattle.kt_parts.specs.Joins.{Joins}
-use Rattle.kt_roll.specs.Actions.{IsRollbackStart, AsksRollbackCohort}
-use Rattle.kt_roll.specs.Notes.{note_of}
-use Rattle.kt_roll.specs.Sides.{RollSide}
+use Rattle.kt_process.specs.Joins.{Joins}
+use Rattle.kt_process.specs.RollbackActions.{IsRollbackStart, AsksRollbackCohort}
+use Rattle.kt_process.specs.Notes.{note_of}
+use Rattle.kt_process.specs.RollingSides.{RollSide}
 use Rattle.kt_process.specs.ProcessStates.{ProcessState, part_of_side, inst_of, IsNumbered}
 use Rattle.kt_process.specs.declared.side.Side.TheVariants as side
 use Rattle.kt_process.specs.Shown.{IsSeenAs, BeginsAs, no_mark}
-use Rattle.kt_seen.specs.Seen.{SeenProcess}
-use Rattle.kt_seen.specs.SeenJoining.{no_note}
+use Rattle.kt_machine.specs.Seen.{SeenProcess}
+use Rattle.kt_machine.specs.SeenJoining.{no_note}
 use Rattle.kt_process.proofs.Beginning.{begins_roll, refuses_roll}
 use Rattle.kt_process.proofs.process.Process.begin_rollback.Goals as goal
 use Rattle.kt_process.proofs.process.Process.begin_rollback.Goals.{in-Some+in-Some+in-Checkpoint-1, in-Some+in-Some+in-Rollback-1, in-Some+in-None-1, in_default}
@@ -32,7 +32,7 @@ joins c y r h is =
     let rule = subst (λ (o : Option RollSide). IsRollbackStart s o action) is c.in_ok-side.ensures.rule in
     let join = subst (λ (o : Option RollSide). IfSome o (λ (m : RollSide). Joins x.tables.processes c.args.inst None m.part action)) is c.in_ok-side.ensures.joins in
     let cohort = subst (λ (o : Option RollSide). OnSome o ((calls : List Call) → TablesStandFor x.tables calls → AsksRollbackCohort calls action)) is c.in_ok-side.ensures.cohort in
-    let notes = subst (λ (o : Option RollSide). IfSome o (λ (m : RollSide). note_of m.notes ≡ Rattle.kt_roll.specs.Notes.no_note)) is c.in_ok-side.ensures.noted in
+    let notes = subst (λ (o : Option RollSide). IfSome o (λ (m : RollSide). note_of m.notes ≡ Rattle.kt_process.specs.Notes.no_note)) is c.in_ok-side.ensures.noted in
     subst (λ (z : ProcessState). BeginsAs kind.Rollback true z.tables.processes c.args.inst no_mark y (record x { side = Some (side.Rollback r) }) action) c.self.view_is
     (begins_roll x y s r no_mark x.tables.processes c.args.inst action k c.self.invariant.numbered c.self.invariant.few
     (subst (λ (z : ProcessState). s.in_inst ≡ inst_of z.side) (sym c.self.view_is) c.standing-standing.ensures.inst) rule join cohort notes)

@@ -3,16 +3,16 @@ use Rattle.std.specs.Prelude.{Option, Some, None, IfSome, OnSome, true, false}
 use Rattle.kt_base.specs.declared.words.Kind.TheVariants as kind
 use Rattle.kt_tables.specs.Calls.{Call}
 use Rattle.kt_tables.specs.Standing.{TablesStandFor}
-use Rattle.kt_parts.specs.Joins.{Joins}
-use Rattle.kt_roll.specs.Actions.{IsRollbackAnswer, AsksRollbackCohort}
-use Rattle.kt_roll.specs.Notes.{note_of, with_note}
-use Rattle.kt_roll.specs.Rules.{is_in}
-use Rattle.kt_roll.specs.Sides.{RollSide, IsSideAfter}
+use Rattle.kt_process.specs.Joins.{Joins}
+use Rattle.kt_process.specs.RollbackActions.{IsRollbackAnswer, AsksRollbackCohort}
+use Rattle.kt_process.specs.Notes.{note_of, with_note}
+use Rattle.kt_process.specs.RollbackRules.{is_in}
+use Rattle.kt_process.specs.RollingSides.{RollSide, IsSideAfter}
 use Rattle.kt_process.specs.ProcessStates.{ProcessState, part_of_side, inst_of, is_ready, IsNumbered}
 use Rattle.kt_process.specs.declared.side.Side.{Side}
 use Rattle.kt_process.specs.declared.side.Side.TheVariants as side
 use Rattle.kt_process.specs.Shown.{IsSeenAs, HearsAs, noted_as, no_mark}
-use Rattle.kt_seen.specs.Seen.{SeenProcess}
+use Rattle.kt_machine.specs.Seen.{SeenProcess}
 use Rattle.kt_process.proofs.Hearing.{hears_roll, replies_roll, notes_nothing, notes_label}
 use Rattle.kt_process.proofs.process.Process.hear_ask_to_roll.Goals as goal
 use Rattle.kt_process.proofs.process.Process.hear_ask_to_roll.Goals.{in-Some+in-Some+in-Checkpoint-1, in-Some+in-Some+in-Rollback-1, in-Some+in-None-1, in_default}
@@ -75,7 +75,7 @@ joins c y r h is =
     let rule = λ (calls : List Call) (st : TablesStandFor x.tables calls). subst (λ (o : Option RollSide). IsRollbackAnswer calls s c.args.inst c.args.from c.args.label o action) is (c.in_ok-side-in-None.ensures.rule calls st) in
     let join = subst (λ (o : Option RollSide). IfSome o (λ (m : RollSide). Joins x.tables.processes c.args.inst (Some c.args.from) m.part action)) is c.in_ok-side-in-None.ensures.joins in
     let cohort = subst (λ (o : Option RollSide). OnSome o ((calls : List Call) → TablesStandFor x.tables calls → AsksRollbackCohort calls action)) is c.in_ok-side-in-None.ensures.cohort in
-    let notes = subst (λ (o : Option RollSide). IfSome o (λ (m : RollSide). note_of m.notes ≡ with_note c.args.from c.args.label Rattle.kt_roll.specs.Notes.no_note)) is c.in_ok-side-in-None.ensures.noted in
+    let notes = subst (λ (o : Option RollSide). IfSome o (λ (m : RollSide). note_of m.notes ≡ with_note c.args.from c.args.label Rattle.kt_process.specs.Notes.no_note)) is c.in_ok-side-in-None.ensures.noted in
     subst (λ (z : ProcessState). HearsAs kind.Rollback true z.tables.processes c.args.from c.args.inst c.args.label no_mark y (record x { side = Some (side.Rollback r) }) action) c.self.view_is
     (hears_roll x y s r no_mark x.tables.processes c.args.from c.args.inst c.args.label action k c.self.invariant.numbered c.self.invariant.few (omega arith)
     (subst (λ (z : ProcessState). s.in_inst ≡ inst_of z.side) (sym c.self.view_is) c.standing-standing.ensures.inst) rule join cohort notes)

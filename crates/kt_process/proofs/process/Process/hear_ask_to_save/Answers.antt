@@ -4,14 +4,14 @@ use Rattle.kt_tables.specs.Calls.{Call, on_tentative}
 use Rattle.kt_tables.specs.Standing.{TablesStandFor}
 use Rattle.kt_tables.specs.States.{State}
 use Rattle.kt_base.specs.declared.words.Kind.TheVariants as kind
-use Rattle.kt_parts.specs.Parts.{Part}
-use Rattle.kt_parts.specs.Joins.{Joins}
+use Rattle.kt_process.specs.Parts.{Part}
+use Rattle.kt_process.specs.Joins.{Joins}
 use Rattle.kt_process.specs.ProcessStates.{ProcessState, inst_of}
 use Rattle.kt_process.specs.Sides.{SaveSide}
 use Rattle.kt_process.specs.declared.side.Side.TheVariants as side
 use Rattle.kt_process.specs.Shown.{IsSeenAs, HearsAs, mark_of}
-use Rattle.kt_seen.specs.Seen.{SeenProcess}
-use Rattle.kt_ckpt.specs.Actions.{IsCheckpointAnswer, AsksCheckpointCohort}
+use Rattle.kt_machine.specs.Seen.{SeenProcess}
+use Rattle.kt_process.specs.CheckpointActions.{IsCheckpointAnswer, AsksCheckpointCohort}
 use Rattle.kt_process.proofs.Hearing.{hears_save, replies_save}
 use Rattle.kt_process.proofs.process.Process.hear_ask_to_save.Goals as goal
 use Rattle.kt_process.proofs.process.Process.hear_ask_to_save.Goals.{in-Some+in-Some+in-Checkpoint-1, in-Some+in-Some+in-Rollback-1, in-Some+in-None-1, in_default}

@@ -1,6 +1,6 @@
 use Rattle.std.specs.Prelude.{Option}
 use Rattle.std.proofs.Common.{sym, subst}
-use Rattle.kt_parts.specs.Parts.{Part}
+use Rattle.kt_process.specs.Parts.{Part}
 use Rattle.kt_process.specs.ProcessStates.{IsNear}
 use Rattle.kt_process.proofs.process.Process.partners.Goals as goal
 

@@ -1,8 +1,8 @@
 use Rattle.std.proofs.Common.{◌+◌, ◌∙◌, refl, subst}
-use Rattle.kt_cuts.specs.Legal.{IsLegal}
-use Rattle.kt_cuts.proofs.Items.{take_item}
-use Rattle.kt_cuts.proofs.LegalLogs.{legal_take}
-use Rattle.kt_cuts.proofs.Replayed.{row_read}
+use Rattle.kt_meaning.specs.Legal.{IsLegal}
+use Rattle.kt_meaning.proofs.Items.{take_item}
+use Rattle.kt_meaning.proofs.LegalLogs.{legal_take}
+use Rattle.kt_rules.proofs.Replayed.{row_read}
 use Rattle.kt_report.proofs.replay.Replay.of_rows.Goals as goal
 
 pub loop-place-preserved : goal.loop-place-preserved

@@ -1,5 +1,5 @@
 use Rattle.std.proofs.Common.{◌≡◌, length, take}
-use Rattle.kt_cuts.specs.Legal.{IsLegal}
+use Rattle.kt_meaning.specs.Legal.{IsLegal}
 use Rattle.kt_report.specs.Shown.{ReplayOf}
 use Rattle.kt_report.proofs.replay.Replay.of_rows.Given as goal
 

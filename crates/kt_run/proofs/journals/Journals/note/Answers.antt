@@ -1,6 +1,6 @@
 use Rattle.std.proofs.Common.{arith, ◌≡◌, ◌∙◌, List, map, set, subst, refl}
 use Rattle.std.proofs.lemmas.List.{length-map}
-use Rattle.kt_plans.specs.Steps.{process_of_step}
+use Rattle.kt_promises.specs.Steps.{process_of_step}
 use Rattle.kt_plan.specs.declared.steps.Told.{Told}
 use Rattle.kt_run.specs.Telling.{IsNoted}
 use Rattle.kt_run.proofs.Noting.{noted_there, noted_nowhere}

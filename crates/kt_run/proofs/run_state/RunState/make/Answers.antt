@@ -3,11 +3,11 @@ use Rattle.std.specs.Prelude.{pos, Some, None, IfErr, OnOk, slice_index_or}
 use Rattle.kt_core.specs.declared.faults.StepFault.{StepFault}
 use Rattle.kt_core.specs.Shown.{Mirrors}
 use Rattle.kt_core.specs.Worlds.{World, can_make, step_refusal}
-use Rattle.kt_held.specs.Holdings.{Content, content}
+use Rattle.kt_object.specs.Holdings.{Content, content}
 use Rattle.kt_plan.specs.declared.steps.Give.{Give}
 use Rattle.kt_plan.specs.declared.steps.Told.{Told}
-use Rattle.kt_plans.specs.Progress.{Progress}
-use Rattle.kt_plans.specs.Steps.{process_of_step}
+use Rattle.kt_promises.specs.Progress.{Progress}
+use Rattle.kt_promises.specs.Steps.{process_of_step}
 use Rattle.kt_run.specs.Faults.{stopped_at}
 use Rattle.kt_run.specs.Objects.{has_of, first_of, HoldDue}
 use Rattle.kt_run.specs.Rejections.{MayReject, objects_held, HaveSpares}

@@ -2,7 +2,7 @@ use Rattle.std.proofs.Common.{rules, ◌≡◌, ◌∙◌, [], true, false, arit
 use Rattle.std.specs.Prelude.{Option, Result, Err, IfErr, IfSome, IfNone, slice_index_or}
 use Rattle.kt_core.specs.Worlds.{can_make}
 use Rattle.kt_core.specs.declared.faults.StepFault.TheVariants.{NotEnabled}
-use Rattle.kt_held.specs.Holdings.{content}
+use Rattle.kt_object.specs.Holdings.{content}
 use Rattle.kt_plan.specs.Limits.{Planned}
 use Rattle.kt_plan.specs.declared.steps.Step.{Step}
 use Rattle.kt_run.specs.Objects.{first_of}

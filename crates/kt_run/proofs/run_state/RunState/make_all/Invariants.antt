@@ -1,7 +1,7 @@
 use Rattle.std.proofs.Common.{◌≡◌}
 use Rattle.std.specs.Prelude.{List, [], length}
 use Rattle.std.specs.List.{AllZip}
-use Rattle.kt_held.specs.Holdings.{Content, content}
+use Rattle.kt_object.specs.Holdings.{Content, content}
 use Rattle.kt_run.specs.Objects.{has_of, HoldDue, AreLeft}
 use Rattle.kt_run.specs.Orders.{generator_of}
 use Rattle.kt_run.specs.Rejections.{objects_held, RejectNoMore}

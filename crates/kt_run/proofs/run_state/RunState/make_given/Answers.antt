@@ -4,7 +4,7 @@ use Rattle.kt_core.specs.Worlds.{World, can_make, step_refusal}
 use Rattle.kt_core.specs.declared.faults.StepFault.{StepFault}
 use Rattle.kt_core.specs.declared.faults.StepFault.TheVariants.{NotEnabled}
 use Rattle.kt_plan.specs.declared.steps.Step.{Step}
-use Rattle.kt_held.specs.Holdings.{content}
+use Rattle.kt_object.specs.Holdings.{content}
 use Rattle.kt_run.specs.Runs.{told_and_held, BeginsRun}
 use Rattle.kt_run.proofs.Spares.{left_same, left_then}
 use Rattle.kt_plan.specs.Limits.{Planned}

@@ -1,5 +1,5 @@
 use Rattle.std.proofs.Common.{◌≡◌, List, [], take, length}
-use Rattle.kt_held.specs.Holdings.{Content, content}
+use Rattle.kt_object.specs.Holdings.{Content, content}
 use Rattle.std.specs.List.{AllZip}
 use Rattle.kt_run.specs.Objects.{has_of, HoldDue, AreLeft}
 use Rattle.kt_run.specs.Rejections.{objects_held, RejectNoMore}

@@ -1,7 +1,7 @@
 use Rattle.std.proofs.Common.{◌∙◌, arith, length, refl, sym, subst}
 use Rattle.std.specs.Prelude.{is_some}
 use Rattle.std.proofs.lemmas.Option.{slice_get_read}
-use Rattle.kt_held.specs.Holdings.{content}
+use Rattle.kt_object.specs.Holdings.{content}
 use Rattle.kt_plan.specs.declared.steps.Step.{Step}
 use Rattle.kt_run.specs.Runs.{Tells}
 use Rattle.kt_run.proofs.Acting.{held_to}

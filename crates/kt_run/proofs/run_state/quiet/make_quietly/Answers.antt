@@ -4,7 +4,7 @@ use Rattle.kt_plan.specs.declared.steps.Act.TheVariants as act
 use Rattle.kt_plan.specs.declared.steps.Look.TheVariants as looks
 use Rattle.kt_plan.specs.declared.steps.Step.{Step}
 use Rattle.kt_plan.specs.declared.steps.Step.TheVariants.{Take}
-use Rattle.kt_plans.specs.Looks.{look}
+use Rattle.kt_promises.specs.Looks.{look}
 use Rattle.kt_run.specs.Runs.{Tells}
 use Rattle.kt_run.proofs.Running.{tells_unkept}
 use Rattle.kt_run.proofs.run_state.quiet.make_quietly.Goals as goal

@@ -5,9 +5,9 @@ use Rattle.kt_fifo.specs.Channels.{channel}
 use Rattle.std.proofs.Common.{true, false, [], ◌∷◌, ◌++◌, arith, refl, ap, subst, sym, ◌∙◌, ◌≡◌, rules}
 use Rattle.kt_fifo.specs.declared.parcels.Parcel.{Parcel}
 use Rattle.kt_fifo.specs.declared.parcels.Parcel.TheVariants as parcel
-use Rattle.kt_seen.specs.Seen.{Seen, SeenLists}
+use Rattle.kt_machine.specs.Seen.{Seen, SeenLists}
 use Rattle.kt_tables.specs.Calls.{received}
-use Rattle.kt_seen.specs.ListChanges.{with_parcel}
+use Rattle.kt_machine.specs.ListChanges.{with_parcel}
 use Rattle.kt_system.specs.Systems.{Whole}
 use Rattle.kt_system.specs.Shown.{ShowsState, turned_to, channel_without, held_without}
 use Rattle.kt_system.proofs.Showing.{shows_same, shows_parts, shows_turned, pushed_is}

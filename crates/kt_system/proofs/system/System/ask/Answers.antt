@@ -2,10 +2,10 @@ use Rattle.std.proofs.Common.{◌≡◌}
 use Rattle.kt_system.proofs.Counting.{asks_few}
 use Rattle.kt_system.proofs.Tallying.{tallies_asked}
 use Rattle.std.proofs.Common.{ap, ◌∙◌}
-use Rattle.kt_seen.specs.Seen.{SeenLists}
-use Rattle.kt_seen.specs.ListChanges.{with_asks_where}
-use Rattle.kt_seen.specs.InOnePiece.{with_asks}
-use Rattle.kt_seen.proofs.Cohorts.{with_cohort}
+use Rattle.kt_machine.specs.Seen.{SeenLists}
+use Rattle.kt_machine.specs.ListChanges.{with_asks_where}
+use Rattle.kt_machine.specs.InOnePiece.{with_asks}
+use Rattle.kt_machine.proofs.Cohorts.{with_cohort}
 use Rattle.kt_system.proofs.Showing.{shows_channels}
 use Rattle.kt_fifo.specs.Channels.{channel}
 use Rattle.std.specs.Prelude.{slice_index_or}

@@ -5,7 +5,7 @@ use Rattle.kt_process.specs.ProcessStates.{ProcessState, inst_of}
 use Rattle.kt_system.specs.Shown.{ShowsState, JoinsAs, with_instance, begun_as}
 use Rattle.std.proofs.Common.{subst}
 use Rattle.kt_system.proofs.Frames.{can_join_kept}
-use Rattle.kt_parts.specs.declared.actions.Action.{Action}
+use Rattle.kt_process.specs.declared.actions.Action.{Action}
 use Rattle.kt_system.specs.Systems.{CanCarryOut}
 use Rattle.kt_system.proofs.Growing.{grows_then}
 use Rattle.kt_system.proofs.system.System.begin.Goals as goal

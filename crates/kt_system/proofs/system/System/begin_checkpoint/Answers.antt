@@ -1,10 +1,10 @@
 use Rattle.std.proofs.Common.{◌≡◌, ℕ, ◌+◌, length, ap, subst, ◌∙◌}
-use Rattle.kt_lists.specs.Kept.{kept_of}
+use Rattle.kt_system.specs.Kept.{kept_of}
 use Rattle.kt_base.specs.declared.words.Kind.TheVariants as which
 use Rattle.kt_process.specs.ProcessStates.{ProcessState}
 use Rattle.kt_process.specs.Turns.{peers_of}
 use Rattle.kt_process.specs.Shown.{BeginsAs, asked_by, label_by, mark_of}
-use Rattle.kt_seen.specs.Seen.{Seen, SeenLists}
+use Rattle.kt_machine.specs.Seen.{Seen, SeenLists}
 use Rattle.kt_system.specs.Systems.{state_of}
 use Rattle.kt_system.specs.Shown.{ShowsState, begun_as}
 use Rattle.kt_system.proofs.Fits.{begins_fit, saving_free}

@@ -4,7 +4,7 @@ use Rattle.kt_base.specs.declared.words.Kind.TheVariants as which
 use Rattle.kt_process.specs.ProcessStates.{ProcessState}
 use Rattle.kt_process.specs.Turns.{peers_of}
 use Rattle.kt_process.specs.Shown.{BeginsAs, asked_by, label_by, no_mark}
-use Rattle.kt_seen.specs.Seen.{Seen}
+use Rattle.kt_machine.specs.Seen.{Seen}
 use Rattle.kt_system.specs.Systems.{state_of}
 use Rattle.kt_system.specs.Shown.{ShowsState, begun_as}
 use Rattle.kt_system.proofs.Fits.{begins_fit}

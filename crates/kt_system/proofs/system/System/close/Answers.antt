@@ -3,7 +3,7 @@ use Rattle.kt_system.proofs.Tallying.{tallies_then, tallies_turned}
 use Rattle.std.proofs.Common.{ap, subst, sym, ◌∙◌}
 use Rattle.std.proofs.Math.Path.{fun_ext}
 use Rattle.kt_base.specs.Sets.{has}
-use Rattle.kt_seen.specs.Seen.{Seen}
+use Rattle.kt_machine.specs.Seen.{Seen}
 use Rattle.kt_process.specs.ProcessStates.{ProcessState, inst_of}
 use Rattle.kt_process.specs.Shown.{closed_as}
 use Rattle.kt_system.specs.Shown.{ShowsState, lists_closed}

@@ -1,4 +1,4 @@
-use Rattle.kt_seen.specs.Seen.{SeenLists}
+use Rattle.kt_machine.specs.Seen.{SeenLists}
 use Rattle.kt_system.proofs.Showing.{shows_channels}
 use Rattle.std.proofs.Common.{refl}
 use Rattle.kt_system.proofs.Frames.{keeps_parcels}

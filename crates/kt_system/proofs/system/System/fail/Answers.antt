@@ -1,7 +1,7 @@
 use Rattle.std.proofs.Common.{[], rules}
 use Rattle.kt_system.proofs.Tallying.{tallies_then, tallies_same, tallies_turned}
 use Rattle.std.proofs.Common.{true, arith, subst, sym, ◌∙◌, ◌≡◌}
-use Rattle.kt_seen.specs.Seen.{Seen}
+use Rattle.kt_machine.specs.Seen.{Seen}
 use Rattle.kt_system.specs.Shown.{ShowsState}
 use Rattle.kt_system.proofs.Showing.{shows_same, shows_turned}
 use Rattle.kt_system.proofs.Messages.{fails_up}

@@ -1,6 +1,6 @@
 use Rattle.std.specs.Prelude.{option_map}
 use Rattle.std.proofs.Common.{◌≡◌, refl, ap, subst, sym, ◌∙◌}
-use Rattle.kt_parts.specs.Rules.{after_reply}
+use Rattle.kt_process.specs.PartRules.{after_reply}
 use Rattle.kt_process.specs.ProcessStates.{ProcessState, part_of_side, is_ready}
 use Rattle.kt_process.specs.Turns.{reply_of}
 use Rattle.kt_process.specs.Shown.{IsSeenAs, counted_as}

@@ -4,8 +4,8 @@ use Rattle.kt_process.specs.ProcessStates.{ProcessState, inst_of}
 use Rattle.std.proofs.Common.{Bool, ap, subst, sym, ◌∙◌}
 use Rattle.kt_fifo.specs.declared.parcels.Parcel.TheVariants as parcel
 use Rattle.kt_spacetime.specs.declared.event.Event.{Event}
-use Rattle.kt_seen.specs.Seen.{Seen}
-use Rattle.kt_seen.specs.ListChanges.{with_parcel, with_asks_where}
+use Rattle.kt_machine.specs.Seen.{Seen}
+use Rattle.kt_machine.specs.ListChanges.{with_parcel, with_asks_where}
 use Rattle.kt_system.specs.Shown.{ShowsState, with_row, joined_row}
 use Rattle.kt_system.proofs.Closing.{settles_wait, settles_answer, settles_commit}
 use Rattle.std.proofs.Common.{arith}

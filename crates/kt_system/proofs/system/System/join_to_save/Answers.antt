@@ -2,12 +2,12 @@ use Rattle.std.proofs.Common.{[], rules}
 use Rattle.kt_fifo.specs.Channels.{channel}
 use Rattle.kt_system.specs.Tallies.{front}
 use Rattle.kt_system.proofs.Tallying.{tallies_same, tallies_turned, tallies_then, tallies_front}
-use Rattle.kt_parts.specs.declared.actions.Action.TheVariants.{Join}
+use Rattle.kt_process.specs.declared.actions.Action.TheVariants.{Join}
 use Rattle.std.proofs.Common.{◌≡◌, ℕ, List, length, drop, true, ap, subst, sym, ◌∙◌}
-use Rattle.kt_parts.specs.declared.actions.Then.{Then}
-use Rattle.kt_lists.specs.Kept.{kept_of}
+use Rattle.kt_process.specs.declared.actions.Then.{Then}
+use Rattle.kt_system.specs.Kept.{kept_of}
 use Rattle.kt_process.specs.Shown.{asked_by, label_by, mark_of}
-use Rattle.kt_seen.specs.Seen.{Seen, SeenLists}
+use Rattle.kt_machine.specs.Seen.{Seen, SeenLists}
 use Rattle.kt_system.specs.Systems.{state_of}
 use Rattle.kt_system.specs.Shown.{ShowsState}
 use Rattle.kt_system.proofs.Showing.{shows_same}

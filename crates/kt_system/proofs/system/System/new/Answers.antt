@@ -6,7 +6,7 @@ use Rattle.kt_process.specs.ProcessStates.{ProcessState, part_of_side, IsNumbere
 use Rattle.kt_process.specs.declared.side.Side.{Side}
 use Rattle.kt_process.specs.Turns.{IsFresh}
 use Rattle.kt_process.specs.Shown.{IsSeenAs, inst_shown, part_shown}
-use Rattle.kt_seen.specs.Seen.{no_part}
+use Rattle.kt_machine.specs.Seen.{no_part}
 use Rattle.kt_system.proofs.Turns.{each_state}
 use Rattle.kt_system.proofs.system.System.new.Goals as goal
 

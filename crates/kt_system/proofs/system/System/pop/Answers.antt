@@ -1,7 +1,7 @@
 use Rattle.kt_system.proofs.Tallying.{tallies_popped}
 use Rattle.std.proofs.Common.{drop, ◌∙◌}
-use Rattle.kt_seen.specs.Seen.{SeenLists}
-use Rattle.kt_seen.specs.ListChanges.{with_rest}
+use Rattle.kt_machine.specs.Seen.{SeenLists}
+use Rattle.kt_machine.specs.ListChanges.{with_rest}
 use Rattle.kt_system.proofs.Showing.{shows_channels, popped_is}
 use Rattle.std.proofs.Common.{refl}
 use Rattle.kt_system.proofs.Frames.{gives_room}

@@ -1,8 +1,8 @@
 use Rattle.kt_fifo.specs.Channels.{channel}
 use Rattle.std.proofs.Common.{ap}
 use Rattle.std.proofs.Common.{◌∙◌}
-use Rattle.kt_seen.specs.Seen.{SeenLists}
-use Rattle.kt_seen.specs.ListChanges.{with_parcel}
+use Rattle.kt_machine.specs.Seen.{SeenLists}
+use Rattle.kt_machine.specs.ListChanges.{with_parcel}
 use Rattle.kt_system.proofs.Showing.{shows_channels, pushed_is}
 use Rattle.std.proofs.Common.{◌≤◌, refl, sym, subst}
 use Rattle.kt_system.specs.Systems.{Whole, room_to}

@@ -1,7 +1,7 @@
 use Rattle.kt_system.proofs.Tallying.{tallies_popped}
 use Rattle.std.proofs.Common.{Bool, drop, refl, ap, subst, sym, ◌∙◌}
-use Rattle.kt_seen.specs.Seen.{SeenLists}
-use Rattle.kt_seen.specs.ListChanges.{with_rest}
+use Rattle.kt_machine.specs.Seen.{SeenLists}
+use Rattle.kt_machine.specs.ListChanges.{with_rest}
 use Rattle.kt_system.specs.Systems.{Whole}
 use Rattle.kt_system.specs.Shown.{ShowsState, channel_without, held_without}
 use Rattle.kt_system.proofs.Showing.{shows_parts, popped_is}

@@ -6,8 +6,8 @@ use Rattle.kt_spacetime.specs.declared.event.Event.TheVariants.{Sent}
 use Rattle.std.proofs.Common.{true, false, ℕ, arith, ap, subst, sym, ◌∙◌, ◌≡◌, ◌<◌, ◌+◌, length, List, [], ◌∷◌, ◌++◌}
 use Rattle.kt_fifo.specs.declared.parcels.Parcel.TheVariants as parcel
 use Rattle.kt_spacetime.specs.declared.event.Event.{Event}
-use Rattle.kt_seen.specs.Seen.{Seen}
-use Rattle.kt_seen.specs.ListChanges.{with_parcel}
+use Rattle.kt_machine.specs.Seen.{Seen}
+use Rattle.kt_machine.specs.ListChanges.{with_parcel}
 use Rattle.kt_system.specs.Shown.{ShowsState, turned_to, with_row}
 use Rattle.kt_system.proofs.Showing.{shows_same, shows_turned}
 use Rattle.kt_system.proofs.Messages.{sends_up, sends_down, speaks_sent}

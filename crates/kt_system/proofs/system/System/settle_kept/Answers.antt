@@ -1,18 +1,17 @@
 use Rattle.std.proofs.Common.{Bool, false, ℕ, ◌≤◌}
 use Rattle.std.specs.Prelude.{Option}
 use Rattle.kt_fifo.specs.Channels.{channel}
-use Rattle.kt_seen.specs.Seen.{SeenLists}
-use Rattle.kt_seen.specs.ListChanges.{trims}
-use Rattle.kt_lists.specs.Kept.{put_back}
+use Rattle.kt_machine.specs.Seen.{SeenLists}
+use Rattle.kt_machine.specs.ListChanges.{trims}
+use Rattle.kt_system.specs.Kept.{put_back}
 use Rattle.kt_process.specs.Shown.{mark_of}
 use Rattle.kt_system.specs.Shown.{ShowsState, held_closed, kept_closed}
 use Rattle.kt_system.proofs.Showing.{stood, shows_parts}
-use Rattle.kt_system.proofs.Turns.{tables_at}
+use Rattle.kt_system.proofs.Turns.{tables_at, state_at}
 use Rattle.kt_system.proofs.Closing.{ready_is, noted_is, marks_are, saving_is, held_restored, kept_restored, kept_trimmed, held_stays}
 use Rattle.kt_process.specs.ProcessStates.{inst_of, ProcessState, is_ready}
 use Rattle.std.proofs.Common.{◌≡◌, true, refl, arith, sym, ap, subst, ◌∙◌}
 use Rattle.kt_system.specs.Systems.{Whole, state_of, HasBack}
-use Rattle.kt_system.proofs.Turns.{state_at}
 use Rattle.kt_system.proofs.Frames.{keeps_room}
 use Rattle.kt_system.proofs.system.System.settle_kept.Goals as goal
 

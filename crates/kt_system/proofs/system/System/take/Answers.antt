@@ -1,7 +1,7 @@
 use Rattle.std.proofs.Common.{ap, subst, sym, ◌∙◌}
 use Rattle.std.specs.Prelude.{None, OnOk, slice_get, if◌then◌else◌}
 use Rattle.kt_tables.specs.Calls.{Speaks}
-use Rattle.kt_seen.specs.Seen.{Seen, SeenLists}
+use Rattle.kt_machine.specs.Seen.{Seen, SeenLists}
 use Rattle.kt_process.specs.ProcessStates.{is_ready}
 use Rattle.kt_system.specs.Systems.{state_of}
 use Rattle.kt_system.specs.Shown.{ShowsState}

@@ -1,10 +1,10 @@
 use Rattle.std.proofs.Common.{◌≡◌, subst, sym}
 use Rattle.std.specs.Prelude.{Some, OnOk, drop}
 use Rattle.kt_base.specs.declared.words.Kind.{Kind}
-use Rattle.kt_cuts.specs.Past.{is_rollback_kind}
-use Rattle.kt_seen.specs.Transition.{seen_ask}
+use Rattle.kt_meaning.specs.Past.{is_rollback_kind}
+use Rattle.kt_machine.specs.Transition.{seen_ask}
 use Rattle.kt_system.specs.Shown.{ShowsState}
-use Rattle.kt_values.specs.SeenActs.{seen_acts_asked}
+use Rattle.kt_machine.specs.SeenActs.{seen_acts_asked}
 use Rattle.kt_system.specs.ShownActs.{acts_shown}
 use Rattle.kt_system.proofs.system.System.take_ask.Goals as goal
 

@@ -4,7 +4,7 @@ use Rattle.kt_system.specs.Tallies.{front}
 use Rattle.kt_system.proofs.Tallying.{tallies_same, tallies_turned, tallies_then, tallies_front}
 use Rattle.std.proofs.Common.{ℕ, drop, true, ap, subst, sym, ◌∙◌}
 use Rattle.kt_process.specs.Shown.{asked_by, label_by, no_mark}
-use Rattle.kt_seen.specs.Seen.{Seen, SeenLists}
+use Rattle.kt_machine.specs.Seen.{Seen, SeenLists}
 use Rattle.kt_system.specs.Shown.{ShowsState}
 use Rattle.kt_system.proofs.Showing.{shows_same}
 use Rattle.kt_process.specs.ProcessStates.{ProcessState, inst_of}

@@ -1,10 +1,10 @@
 use Rattle.std.proofs.Common.{◌≡◌, ℕ, List, length, drop, refl, ap, subst, sym, ◌∙◌, [], rules}
 use Rattle.kt_base.specs.declared.words.Kind.TheVariants as kind
-use Rattle.kt_parts.specs.Replies.{IsReplyTo}
-use Rattle.kt_parts.specs.declared.actions.Action.{Action}
+use Rattle.kt_process.specs.Replies.{IsReplyTo}
+use Rattle.kt_process.specs.declared.actions.Action.{Action}
 use Rattle.kt_process.specs.ProcessStates.{ProcessState, is_ready}
 use Rattle.kt_process.specs.Shown.{HearsAs, asked_by, label_by}
-use Rattle.kt_seen.specs.Seen.{Seen, SeenLists}
+use Rattle.kt_machine.specs.Seen.{Seen, SeenLists}
 use Rattle.kt_system.specs.Systems.{state_of}
 use Rattle.kt_system.specs.Shown.{ShowsState}
 use Rattle.kt_system.specs.ShownActs.{acts_carried_out}

@@ -3,7 +3,7 @@ use Rattle.kt_system.specs.Tallies.{front}
 use Rattle.kt_system.proofs.Tallying.{tallies_same, tallies_then, tallies_front}
 use Rattle.std.proofs.Common.{◌≡◌, true, drop, ap, subst, sym, ◌∙◌}
 use Rattle.std.specs.Prelude.{◌==◌}
-use Rattle.kt_seen.specs.Seen.{Seen}
+use Rattle.kt_machine.specs.Seen.{Seen}
 use Rattle.kt_process.specs.ProcessStates.{ProcessState, inst_of}
 use Rattle.kt_system.specs.Shown.{ShowsState}
 use Rattle.kt_system.proofs.Showing.{shows_same}

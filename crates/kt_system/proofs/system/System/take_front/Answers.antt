@@ -1,8 +1,8 @@
 use Rattle.std.proofs.Common.{◌≡◌, List, ◌∷◌, drop, ap, subst, sym, ◌∙◌}
 use Rattle.std.specs.Prelude.{Some, OnOk, slice_get}
 use Rattle.kt_fifo.specs.declared.parcels.Parcel.{Parcel}
-use Rattle.kt_seen.specs.Seen.{SeenLists}
-use Rattle.kt_seen.specs.Transition.{seen_front}
+use Rattle.kt_machine.specs.Seen.{SeenLists}
+use Rattle.kt_machine.specs.Transition.{seen_front, is_seen_ready}
 use Rattle.kt_system.specs.Systems.{Whole}
 use Rattle.kt_system.specs.Shown.{ShowsState}
 use Rattle.kt_system.proofs.Taking.{front_is}
@@ -10,8 +10,7 @@ use Rattle.std.specs.Prelude.{ℤ, if◌then◌else◌}
 use Rattle.std.specs.Int.{w64}
 use Rattle.std.proofs.Common.{[], rules}
 use Rattle.std.proofs.lemmas.Int.{to_z-of_z}
-use Rattle.kt_seen.specs.Transition.{is_seen_ready}
-use Rattle.kt_values.specs.SeenActs.{seen_acts_taking, seen_acts_arriving}
+use Rattle.kt_machine.specs.SeenActs.{seen_acts_taking, seen_acts_arriving}
 use Rattle.kt_system.specs.ShownActs.{acts_shown}
 use Rattle.kt_system.proofs.system.System.take_front.Goals as goal
 

@@ -1,16 +1,15 @@
 use Rattle.std.proofs.Common.{◌≡◌, true, false, drop, refl}
 use Rattle.kt_fifo.specs.declared.parcels.Parcel.{Parcel}
 use Rattle.kt_fifo.specs.declared.parcels.Parcel.TheVariants as parcel
-use Rattle.kt_fifo.specs.Channels.{channel}
-use Rattle.kt_seen.specs.Seen.{SeenLists}
-use Rattle.kt_seen.specs.ListChanges.{with_parcel, with_rest}
-use Rattle.kt_seen.specs.Transition.{is_seen_ready}
+use Rattle.kt_fifo.specs.Channels.{channel, ChannelLists, spare_of}
+use Rattle.kt_machine.specs.Seen.{SeenLists}
+use Rattle.kt_machine.specs.ListChanges.{with_parcel, with_rest}
+use Rattle.kt_machine.specs.Transition.{is_seen_ready}
 use Rattle.kt_system.specs.Shown.{ShowsState}
 use Rattle.kt_system.proofs.Showing.{shows_parts, pushed_is}
 use Rattle.kt_system.proofs.Replying.{ready_seen}
 use Rattle.std.proofs.Common.{◌≤◌, arith, sym, ap, subst, ◌∙◌}
 use Rattle.kt_system.specs.Systems.{Whole}
-use Rattle.kt_fifo.specs.Channels.{ChannelLists, spare_of}
 use Rattle.kt_system.proofs.system.System.take_message.Goals as goal
 
 pub push_reserved-requires-clause-room : goal.push_reserved-requires-clause-room

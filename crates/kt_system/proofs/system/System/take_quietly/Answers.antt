@@ -3,11 +3,11 @@ use Rattle.std.proofs.Common.{◌≡◌, ℕ, List, [], ◌++◌, false, drop, r
 use Rattle.kt_base.specs.declared.words.Kind.{Kind}
 use Rattle.kt_fifo.specs.Channels.{channel}
 use Rattle.kt_fifo.specs.declared.parcels.Parcel.{Parcel}
-use Rattle.kt_parts.specs.declared.actions.Action.{Action}
+use Rattle.kt_process.specs.declared.actions.Action.{Action}
 use Rattle.kt_process.specs.ProcessStates.{part_of_side}
 use Rattle.kt_process.specs.Shown.{counted_as}
-use Rattle.kt_seen.specs.Seen.{Seen}
-use Rattle.kt_seen.specs.SeenMessages.{seen_without_front}
+use Rattle.kt_machine.specs.Seen.{Seen}
+use Rattle.kt_machine.specs.SeenMessages.{seen_without_front}
 use Rattle.kt_spacetime.specs.declared.event.Event.{Event}
 use Rattle.kt_system.specs.Reads.{awaited_of}
 use Rattle.kt_system.specs.Shown.{ShowsState, turned_to, gone_on, after_reply_taken}

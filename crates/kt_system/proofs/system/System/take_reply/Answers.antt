@@ -1,15 +1,14 @@
-use Rattle.kt_process.specs.Turns.{HasPartners}
+use Rattle.kt_process.specs.Turns.{HasPartners, reply_of}
 use Rattle.kt_system.proofs.Fits.{replies_fit}
 use Rattle.std.proofs.Common.{[], rules}
 use Rattle.kt_system.specs.Tallies.{front}
 use Rattle.kt_system.proofs.Tallying.{tallies_same, tallies_turned, tallies_then, tallies_front}
 use Rattle.kt_system.specs.Systems.{state_of}
 use Rattle.std.proofs.Common.{◌≡◌, drop, arith, ap, subst, sym, ◌∙◌}
-use Rattle.kt_parts.specs.declared.actions.Action.{Action}
-use Rattle.kt_seen.specs.Seen.{Seen}
-use Rattle.kt_seen.specs.SeenMessages.{seen_without_front}
+use Rattle.kt_process.specs.declared.actions.Action.{Action}
+use Rattle.kt_machine.specs.Seen.{Seen}
+use Rattle.kt_machine.specs.SeenMessages.{seen_without_front}
 use Rattle.kt_process.specs.ProcessStates.{ProcessState, part_of_side}
-use Rattle.kt_process.specs.Turns.{reply_of}
 use Rattle.kt_process.specs.Shown.{counted_as}
 use Rattle.kt_system.specs.Shown.{ShowsState, turned_to, gone_on}
 use Rattle.kt_system.proofs.Showing.{shows_same, shows_turned}

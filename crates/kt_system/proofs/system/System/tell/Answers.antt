@@ -1,7 +1,7 @@
 use Rattle.kt_system.proofs.Tallying.{tallies_told}
 use Rattle.std.proofs.Common.{refl}
-use Rattle.kt_seen.specs.Seen.{SeenLists}
-use Rattle.kt_seen.specs.ListChanges.{with_decisions}
+use Rattle.kt_machine.specs.Seen.{SeenLists}
+use Rattle.kt_machine.specs.ListChanges.{with_decisions}
 use Rattle.kt_system.proofs.Showing.{shows_channels}
 use Rattle.std.proofs.Common.{◌≡◌, ◌≤◌, ℕ, true, sym, subst}
 use Rattle.kt_system.specs.Systems.{Whole, room_to}

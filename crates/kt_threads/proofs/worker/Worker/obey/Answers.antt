@@ -1,5 +1,5 @@
 use Rattle.std.proofs.Common.{ap}
-use Rattle.kt_held.specs.Holdings.{content}
+use Rattle.kt_object.specs.Holdings.{content}
 use Rattle.kt_threads.specs.declared.faults.LiveFault.TheVariants as live
 use Rattle.kt_threads.proofs.Rejecting.{ended_keeps, of_other}
 use Rattle.kt_threads.proofs.worker.Worker.obey.Goals as goal

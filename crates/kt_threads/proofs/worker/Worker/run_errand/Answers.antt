@@ -1,7 +1,7 @@
 use Rattle.std.proofs.Common.{rules, ◌≡◌, ◌∙◌, ◌++◌, [], ◌∷◌, Some, ap, refl, true}
-use Rattle.kt_errands.specs.Errands.{DoneBy}
-use Rattle.kt_errands.specs.declared.errand.Entry.{Entry}
-use Rattle.kt_held.specs.Holdings.{content}
+use Rattle.kt_threads.specs.Books.{DoneBy}
+use Rattle.kt_threads.specs.declared.errand.Entry.{Entry}
+use Rattle.kt_object.specs.Holdings.{content}
 use Rattle.kt_threads.specs.Faults.{live_of_act}
 use Rattle.kt_threads.specs.declared.faults.LiveFault.TheVariants as live
 use Rattle.kt_threads.proofs.Rejecting.{ended_keeps, of_done, of_other, of_refused}

@@ -1,7 +1,7 @@
 use Rattle.std.proofs.Common.{◌≡◌, Option, Some, None, sym, ap, ◌∙◌, length}
 use Rattle.kt_spacetime.specs.declared.event.Event.TheVariants as event
-use Rattle.kt_cuts.specs.declared.instances.Instance.{Instance}
-use Rattle.kt_cuts.proofs.Items.{written}
+use Rattle.kt_rules.specs.declared.instances.Instance.{Instance}
+use Rattle.kt_meaning.proofs.Items.{written}
 use Rattle.kt_walk.proofs.WalkMessages.{same_messages, abort_leaves, permanent_messages, rolled_back_messages}
 use Rattle.kt_walk.proofs.WalkDecides.{decided_instance, aborted_row, checkpoint_row, rollback_row}
 use Rattle.kt_walk.proofs.control.ControlState.decide.Goals as goal

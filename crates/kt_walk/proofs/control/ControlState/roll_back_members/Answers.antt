@@ -1,5 +1,5 @@
 use Rattle.std.proofs.Common.{◌≡◌, ℕ, ◌+◌, List, refl, subst, arith}
-use Rattle.kt_cuts.specs.declared.deeds.Deed.{Deed}
+use Rattle.kt_spacetime.specs.declared.deeds.Deed.{Deed}
 use Rattle.kt_walk.specs.PartsOf.{ShowsProcessStates}
 use Rattle.kt_walk.specs.Stages.{with_live, undone_below, undone_at}
 use Rattle.kt_walk.proofs.ControlLoops.{keeps_rest, keeps_rest_twice, same_live, undone_none, undone_next, within_below}

@@ -1,5 +1,5 @@
 use Rattle.std.proofs.Common.{ℕ, ◌≤◌, length}
-use Rattle.kt_cuts.specs.Past.{Past}
+use Rattle.kt_meaning.specs.Past.{Past}
 use Rattle.kt_walk.specs.PartsOf.{ShowsProcessStates}
 use Rattle.kt_walk.specs.Stages.{with_live, undone_below}
 use Rattle.kt_walk.specs.ControlOf.{KeepsRest}

@@ -1,6 +1,6 @@
 use Rattle.std.proofs.Common.{◌≡◌, List, length, sym, ap, subst, ◌∙◌}
 use Rattle.kt_walk.specs.Pairs.{PairState, ShowsPairs}
-use Rattle.kt_cuts.proofs.Items.{written}
+use Rattle.kt_meaning.proofs.Items.{written}
 use Rattle.kt_walk.proofs.PairsFacts.{pairs_kept, permanent_pairs}
 use Rattle.kt_walk.proofs.pairs.Pairs.commit_checkpoint.Goals as goal
 

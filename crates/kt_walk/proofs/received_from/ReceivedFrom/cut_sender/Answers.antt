@@ -1,7 +1,7 @@
 use Rattle.std.proofs.Common.{refl}
 use Rattle.kt_walk.proofs.ReceivedFacts.{sender_cut}
 use Rattle.kt_walk.proofs.ItemPlaces.{take_rest}
-use Rattle.kt_cuts.proofs.Lists.{get_take}
+use Rattle.kt_meaning.proofs.Lists.{get_take}
 use Rattle.kt_walk.proofs.received_from.ReceivedFrom.cut_sender.Goals as goal
 
 pub returns-clause-received_from : goal.returns-clause-received_from

@@ -1,8 +1,8 @@
 use Rattle.std.proofs.Common.{◌≡◌, ℕ, None, [], ◌∷◌, ◌++◌, is_some, true, false, sym, ap, subst, ◌∙◌}
 use Rattle.kt_spacetime.specs.declared.event.Event.TheVariants as event
-use Rattle.kt_cuts.specs.Past.{past}
-use Rattle.kt_cuts.specs.Legal.{broken_rule}
-use Rattle.kt_cuts.proofs.LegalLogs.{kept, legal_last}
+use Rattle.kt_meaning.specs.Past.{past}
+use Rattle.kt_meaning.specs.Legal.{broken_rule}
+use Rattle.kt_meaning.proofs.LegalLogs.{kept, legal_last}
 use Rattle.kt_walk.specs.WalkOf.{WalkOf}
 use Rattle.kt_walk.specs.WalkParts.{WalkParts}
 use Rattle.kt_walk.proofs.ArrivalFacts.{ok_gives}

@@ -1,11 +1,11 @@
 use Rattle.std.proofs.Common.{◌≡◌, None, [], ◌∷◌, ◌++◌, refl, sym, subst, ◌∙◌}
 use Rattle.kt_spacetime.specs.declared.event.Event.{Event}
 use Rattle.kt_spacetime.specs.declared.event.Event.TheVariants as event
-use Rattle.kt_cuts.specs.Past.{past}
-use Rattle.kt_cuts.specs.Legal.{IsLegal, broken_rule}
+use Rattle.kt_meaning.specs.Past.{past}
+use Rattle.kt_meaning.specs.Legal.{IsLegal, broken_rule}
 use Rattle.kt_walk.specs.WalkOf.{WalkOf}
 use Rattle.kt_walk.specs.WalkParts.{WalkParts}
-use Rattle.kt_cuts.proofs.RowRules.{none_from}
+use Rattle.kt_meaning.proofs.RowRules.{none_from}
 use Rattle.kt_walk.proofs.walk.Walk.feed.Goals as goal
 use Rattle.kt_walk.proofs.walk.Walk.feed.Goals.{then-not-may_send+in_ok-test-in-Sent, else-not-may_send}
 

@@ -1,8 +1,8 @@
 use Rattle.std.proofs.Common.{◌≡◌, None, [], ◌∷◌, ◌++◌, sym, subst}
 use Rattle.kt_spacetime.specs.declared.event.Event.{Event}
-use Rattle.kt_cuts.specs.Past.{past}
-use Rattle.kt_cuts.specs.Legal.{IsLegal, broken_rule}
-use Rattle.kt_cuts.proofs.LegalLogs.{legal_last}
+use Rattle.kt_meaning.specs.Past.{past}
+use Rattle.kt_meaning.specs.Legal.{IsLegal, broken_rule}
+use Rattle.kt_meaning.proofs.LegalLogs.{legal_last}
 use Rattle.kt_walk.specs.WalkOf.{WalkOf}
 use Rattle.kt_walk.proofs.ArrivalFacts.{ok_gives}
 use Rattle.kt_walk.proofs.walk.Walk.feed_legal.Goals as goal

@@ -1,2 +1,0 @@
-pub mod Errands
-pub mod Rules

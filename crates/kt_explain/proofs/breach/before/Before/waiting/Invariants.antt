@@ -1,5 +1,0 @@
-use Rattle.kt_explain.proofs.InTransit.{IsWaitingTo}
-use Rattle.kt_explain.proofs.breach.before.Before.waiting.Given as goal
-
-abbrev pub invariant-loop-place : goal.invariant-loop-place
-invariant-loop-place l = IsWaitingTo l.self.rows.now l.from l.p l.initial.waiting l.place l.waiting

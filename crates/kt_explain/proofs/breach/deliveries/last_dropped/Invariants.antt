@@ -1,7 +1,0 @@
-use Rattle.std.proofs.Common.{take}
-use Rattle.kt_cuts.specs.Past.{past}
-use Rattle.kt_explain.specs.Breaches.{IsLastDropped}
-use Rattle.kt_explain.proofs.breach.deliveries.last_dropped.Given as goal
-
-abbrev pub invariant-loop-place : goal.invariant-loop-place
-invariant-loop-place l = IsLastDropped (past (take l.place l.rows)) l.p l.from l.last

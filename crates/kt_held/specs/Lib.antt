@@ -1,5 +1,0 @@
-pub mod Holdings
-pub mod Fits
-pub mod Casts
-pub mod Refusals
-pub mod Faults

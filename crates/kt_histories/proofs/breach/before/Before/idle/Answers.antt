@@ -1,0 +1,26 @@
+use Rattle.std.proofs.Common.{◌≡◌, ◌∙◌, ℕ, ◌==◌, true, sym, ap, arith}
+use Rattle.std.proofs.lemmas.Bool.Decides.{nat_tests}
+use Rattle.std.specs.Prelude.{is_none}
+use Rattle.kt_meaning.specs.Past.{past}
+use Rattle.kt_meaning.specs.Legal.{is_instance}
+use Rattle.kt_histories.proofs.KnownRows.{unjoined}
+use Rattle.kt_histories.proofs.breach.before.Before.idle.Goals as goal
+
+itself : (a : ℕ) → (a == a) ≡ true
+itself a = grind (arith, nat_tests)
+
+pub open_at-requires-clause-open_in : goal.open_at-requires-clause-open_in
+open_at-requires-clause-open_in c = sym (c.open_in.ensures c.args.self.now.rows.now c.requires.before.histories) ∙ c.in_ok-inst.was
+
+pub returns : goal.returns
+returns c = record {
+  so = c.open_at.ensures.told;
+  against = λ log legal so. ap (λ (q : ℕ). is_none ((past log).open_in q)) (sym c.open_at.ensures.p) ∙ ap is_none so.open_in;
+}
+
+pub returns-in_err-row : goal.returns-in_err-row
+returns-in_err-row c =
+    let rows = c.args.self.now.rows.now in
+    let out = unjoined c.args.p c.in_ok-inst.inst rows c.in_err-row.ensures in
+    let inside = sym (c.open_in.ensures rows c.requires.before.histories) ∙ c.in_ok-inst.was in
+    absurd (cc (sym out ∙ ap (λ o. is_instance o c.in_ok-inst.inst) inside, itself c.in_ok-inst.inst))

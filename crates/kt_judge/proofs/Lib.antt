@@ -1,3 +1,0 @@
-mod Bases
-mod DecidedRows
-mod OpenInstances

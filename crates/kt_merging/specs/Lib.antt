@@ -1,2 +1,0 @@
-pub use Rattle.kt_merge.specs.Merging
-pub mod Merged

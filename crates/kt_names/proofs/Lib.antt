@@ -1,4 +1,0 @@
-pub mod PlaceFacts
-pub mod GivenFacts
-pub mod NumberedFacts
-pub mod LegalNames

@@ -1,9 +1,0 @@
--- A reply to the process that asked.
-use Rattle.std.specs.Prelude.{◌≡◌, ℕ}
-use Rattle.kt_parts.specs.declared.actions.Action.{Action}
-use Rattle.kt_parts.specs.declared.actions.Action.TheVariants.{Nothing, Refuse, Join, Reply, Settle}
-
--- it replies to the asker, whatever
-abbrev pub IsReplyTo : ℕ → Action → Type 0
-IsReplyTo from (Reply to willing cause) = to ≡ from
-IsReplyTo from action = ⊥

@@ -1,2 +1,0 @@
-pub mod NoteLists
-pub mod Rulings

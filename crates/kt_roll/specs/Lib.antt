@@ -1,4 +1,0 @@
-pub mod Actions
-pub mod Notes
-pub mod Rules
-pub mod Sides

@@ -1,0 +1,9 @@
+pub mod Replayed
+pub mod SortedFacts
+pub mod DeedFacts
+pub mod LatestFacts
+pub mod Traced
+pub mod OrphanFacts
+pub mod MessageTables
+pub mod Steps
+pub mod InstanceSteps

@@ -1,0 +1,11 @@
+pub use Rattle.kt_spacetime.specs.Events
+pub use Rattle.kt_spacetime.specs.Logs
+pub use Rattle.kt_base.specs.Numbers
+pub mod Lists
+pub mod Standing
+pub mod Tables
+pub mod Changes
+pub mod Tests
+pub mod RuleContext
+pub mod Traces
+pub mod Orphans

@@ -1,0 +1,17 @@
+use Rattle.std.proofs.Common.{◌≡◌, ℕ, true, drop}
+use Rattle.kt_base.specs.Sets.{has, count_of}
+use Rattle.kt_fifo.specs.Queues.{has_parcel}
+use Rattle.kt_fifo.specs.Channels.{channel}
+use Rattle.kt_process.specs.Shown.{mark_of}
+use Rattle.kt_system.proofs.Trimmed.{changed}
+use Rattle.kt_system.proofs.kept.trim.Given as goal
+
+abbrev pub invariant-loop-from : goal.invariant-loop-from
+invariant-loop-from l = record {
+  processes : l.channels.processes ≡ l.fn.channels.processes;
+  lists : channel l.channels ≡ changed (has l.rest) l.p (λ q parcels. drop (mark_of l.marks q) parcels) (channel l.fn.channels);
+  senders : (q : ℕ) → has l.rest q ≡ true → has_parcel (channel l.fn.channels q l.p) ≡ true;
+}
+
+abbrev pub decreases-loop-from : goal.decreases-loop-from
+decreases-loop-from l = count_of l.rest
