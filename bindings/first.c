@@ -21,7 +21,7 @@ int main(void) {
 
     /* The first call tells how long the text is. */
     kt_explain(log, log_len, certs, certs_len, (uint8_t *)"", 0, &len, &fault);
-    uint8_t *text = malloc(len + 1);
+    uint8_t *text = (uint8_t *)malloc(len + 1);
     if (!text) return 1;
     kt_explain(log, log_len, certs, certs_len, text, len, &len, &fault);
     printf("%.*s", (int)len, (char *)text);
