@@ -24,7 +24,6 @@ use crate::tables::Numbers;
 use kt_base::{Memory, ProcNo};
 use kt_spacetime::{Event, NamedRow};
 use kt_text::WriteFault;
-use kt_text::lines::Line;
 use kt_text::pieces::{new_text, write_full, write_rest};
 use std::alloc::Global;
 use std::io::{Read, Write};
@@ -72,10 +71,9 @@ fn merge_readers<R: Read + Drop, W: Write>(
     ensures stopped { IfErr result (λ e. StopsMerge parts.old.items (W.contents writer.old) (W.contents writer.new) e) }
 {
     read_heads(parts, heads)?;
-    let mut line = Line::new();
     while let Some((part, row)) = least(heads.as_slice()) {
         let event = numbered(numbers, row.row, parts[part].count())?;
-        write_row(text, &mut line, event, writer)?;
+        write_row(text, event, writer)?;
         heads[part] = next_head(&mut parts[part], part)?;
     }
     write_rest(text, writer)?;
@@ -127,18 +125,13 @@ fn next_head<R: Read + Drop>(
 
 // Gathers a row's record, and writes what is gathered if it is much.
 #[inline(always)]
-fn write_row<W: Write>(
-    text: &mut Vec<u8>,
-    line: &mut Line,
-    row: Event,
-    writer: &mut W,
-) -> Result<(), WriteFault>
+fn write_row<W: Write>(text: &mut Vec<u8>, row: Event, writer: &mut W) -> Result<(), WriteFault>
     ensures sent { OnOk result (Sends (W.contents writer.old) (W.contents writer.new) text.old.items text.new.items
         (line_of (spelling row))) }
     ensures stopped { OnErr result (WritesFront (W.contents writer.old) (W.contents writer.new)
         (text.old.items ++ line_of (spelling row))) }
 {
-    push_row(text, line, row)?;
+    push_row(text, row)?;
     write_full(text, writer)
 }
 

@@ -1,16 +1,13 @@
 //! Rows of the log as they are written.
 
-ghost use Rattle.std.specs.Prelude.{◌≡◌, ◌≤◌, ◌+◌, [], ◌∷◌, ◌++◌, codes, length, OnOk};
-ghost use Rattle.std.specs.Fmt.{decimal, signed_decimal};
-ghost use Rattle.kt_base.specs.declared.words.Cause.TheVariants.{Busy};
-ghost use Rattle.kt_log_text.specs.Spelling.{spelling, verb_word, cause_word};
+ghost use Rattle.std.specs.Prelude.{◌≡◌, ◌++◌, OnOk};
+ghost use Rattle.kt_log_text.specs.Spelling.{spelling};
 ghost use Rattle.kt_log_text.specs.Texts.{header};
-ghost use Rattle.kt_text.specs.Writing.{joined, line_of};
+ghost use Rattle.kt_text.specs.Writing.{line_of};
 
-use kt_base::{Cause, InstNo, Memory, MsgNo, ProcNo, Verb};
+use kt_base::Memory;
+use kt_log_text::push_fields;
 use kt_spacetime::Event;
-use kt_text::fields::{decision_text, kind_text};
-use kt_text::lines::Line;
 
 /// Gathers the record that names the format.
 pub(crate) fn push_header(text: &mut Vec<u8>) -> Result<(), Memory>
@@ -21,165 +18,10 @@ pub(crate) fn push_header(text: &mut Vec<u8>) -> Result<(), Memory>
 }
 
 /// Gathers a row's record.
-pub(crate) fn push_row(text: &mut Vec<u8>, line: &mut Line, row: Event) -> Result<(), Memory>
+pub(crate) fn push_row(text: &mut Vec<u8>, row: Event) -> Result<(), Memory>
     ensures { OnOk result (text.new.items ≡ text.old.items ++ line_of (spelling row)) }
 {
-    line.clear();
-    line.put_byte(b'\n');
-    put_fields(line, row);
-    line.push_to(text)
-}
-
-// Puts the fields of a row before the end of its line.
-#[inline(always)]
-fn put_fields(line: &mut Line, row: Event)
-    requires { length line.old ≤ 1 }
-    ensures { line.new ≡ joined (spelling row) ++ line.old }
-{
-    match row {
-        Event::Sent { p, to, body } => put_sent(line, p, to, body),
-        Event::Received { p, from, msg } => put_taken(line, b"received", p, from, msg),
-        Event::Dropped { p, from, msg } => put_taken(line, b"dropped", p, from, msg),
-        Event::Began { p, inst, kind } => put_joined(line, b"began", p, inst, kind_text(kind)),
-        Event::Took { p, inst } => put_joined(line, b"took", p, inst, b"-"),
-        Event::Ready { p, inst } => put_joined(line, b"ready", p, inst, b"-"),
-        Event::Unwilling { p, inst, cause } => put_unwilling(line, p, inst, cause),
-        Event::Decided { p, inst, commit } => {
-            put_joined(line, b"decided", p, inst, decision_text(commit))
-        }
-        Event::Closed { p, inst } => put_joined(line, b"closed", p, inst, b"-"),
-        Event::Failed { p } => put_failed(line, p),
-        Event::Refused { p, verb, cause } => put_refused(line, p, verb, cause),
-    }
-}
-
-#[inline(always)]
-fn put_sent(line: &mut Line, p: ProcNo, to: ProcNo, body: i64)
-    requires { length line.old ≤ 1 }
-    ensures { line.new ≡ joined (codes "sent" ∷ decimal p ∷ decimal to ∷ signed_decimal body ∷ []) ++ line.old }
-{
-    let mut digits = itoa::Buffer::new();
-    put_field(line, digits.format(body).as_bytes());
-    put_number(line, u32::from(to.get()));
-    put_process(line, b"sent", p);
-}
-
-// A row that takes a message.
-#[inline(always)]
-fn put_taken(line: &mut Line, word: &[u8], p: ProcNo, from: ProcNo, msg: MsgNo)
-    requires empty { length line.old ≤ 1 }
-    requires short { length word.now ≤ 9 }
-    ensures { line.new ≡ joined (word.now ∷ decimal p ∷ decimal from ∷ decimal msg ∷ []) ++ line.old }
-{
-    put_number(line, msg.get());
-    put_number(line, u32::from(from.get()));
-    put_process(line, word, p);
-}
-
-// A row of an instance.
-#[inline(always)]
-fn put_joined(line: &mut Line, word: &[u8], p: ProcNo, inst: InstNo, third: &[u8])
-    requires empty { length line.old ≤ 1 }
-    requires short { (length word.now ≤ 9) × (length third.now ≤ 10) }
-    ensures { line.new ≡ joined (word.now ∷ decimal p ∷ decimal inst ∷ third.now ∷ []) ++ line.old }
-{
-    put_field(line, third);
-    put_number(line, u32::from(inst.get()));
-    put_process(line, word, p);
-}
-
-fn put_failed(line: &mut Line, p: ProcNo)
-    requires { length line.old ≤ 1 }
-    ensures { line.new ≡ joined (codes "failed" ∷ decimal p ∷ codes "-" ∷ codes "-" ∷ []) ++ line.old }
-{
-    put_field(line, b"-");
-    put_field(line, b"-");
-    put_process(line, b"failed", p);
-}
-
-#[inline(always)]
-fn put_unwilling(line: &mut Line, p: ProcNo, inst: InstNo, cause: Cause)
-    requires { length line.old ≤ 1 }
-    ensures { line.new ≡ joined (codes "unwilling" ∷ decimal p ∷ decimal inst ∷ cause_word cause ∷ []) ++ line.old }
-{
-    put_cause(line, cause);
-    put_number(line, u32::from(inst.get()));
-    put_process(line, b"unwilling", p);
-}
-
-fn put_refused(line: &mut Line, p: ProcNo, verb: Verb, cause: Cause)
-    requires { length line.old ≤ 1 }
-    ensures { line.new ≡ joined (codes "refused" ∷ decimal p ∷ verb_word verb ∷ cause_word cause ∷ []) ++ line.old }
-{
-    put_cause(line, cause);
-    put_field(line, verb_text(verb));
-    put_process(line, b"refused", p);
-}
-
-// The first two of four fields.
-#[inline(always)]
-fn put_process(line: &mut Line, word: &[u8], p: ProcNo)
-    requires { length word.now + length line.old ≤ 53 }
-    ensures { line.new ≡ joined (word.now ∷ decimal p ∷ []) ++ line.old }
-{
-    put_number(line, u32::from(p.get()));
-    line.put(word);
-}
-
-// A comma and a number.
-#[inline(always)]
-fn put_number(line: &mut Line, number: u32)
-    requires { length line.old ≤ 53 }
-    ensures text { line.new ≡ 44 ∷ (decimal number ++ line.old) }
-    ensures length { length line.new ≤ length line.old + 11 }
-{
-    line.put_decimal(number);
-    line.put_byte(b',');
-}
-
-// A comma and a field.
-#[inline(always)]
-fn put_field(line: &mut Line, field: &[u8])
-    requires { length field.now + length line.old ≤ 63 }
-    ensures text { line.new ≡ 44 ∷ (field.now ++ line.old) }
-    ensures length { length line.new ≡ length field.now + length line.old + 1 }
-{
-    line.put(field);
-    line.put_byte(b',');
-}
-
-// A comma and a cause.
-#[inline(always)]
-fn put_cause(line: &mut Line, cause: Cause)
-    requires { length line.old ≤ 1 }
-    ensures text { line.new ≡ 44 ∷ (cause_word cause ++ line.old) }
-    ensures length { length line.new ≤ 17 }
-{
-    match cause {
-        Cause::Busy(inst) => put_busy(line, inst),
-        Cause::Down => put_field(line, b"down"),
-        Cause::NoSave => put_field(line, b"nosave"),
-    }
-}
-
-// A comma and the cause of a process that is in another instance.
-fn put_busy(line: &mut Line, inst: InstNo)
-    requires { length line.old ≤ 1 }
-    ensures text { line.new ≡ 44 ∷ (cause_word (Busy inst) ++ line.old) }
-    ensures length { length line.new ≤ 17 }
-{
-    line.put_decimal(u32::from(inst.get()));
-    put_field(line, b"busy-");
-}
-
-fn verb_text(verb: Verb) -> &'static [u8]
-    ensures word { result.now ≡ verb_word verb }
-    ensures short { length result.now ≤ 10 }
-{
-    match verb {
-        Verb::Send => b"send",
-        Verb::Checkpoint => b"checkpoint",
-        Verb::Rollback => b"rollback",
-        Verb::Fail => b"fail",
-    }
+    push_fields(text, row)?;
+    text.push(b'\n')?;
+    Ok(())
 }
