@@ -1,5 +1,7 @@
 //! Stored cases: a title, and pieces of text.
 
+use crate::entries::split_at_mark;
+
 // What ends a title, a piece and a case.
 const LINE_FEED: &[u8] = b"\n";
 
@@ -12,17 +14,6 @@ const CASE_END: &[u8] = b"----\n";
 pub(crate) struct Case<'a> {
     pub(crate) title: &'a str,
     pub(crate) pieces: &'a [u8],
-}
-
-// What stands before the first mark in these bytes, and what stands behind it.
-fn split_at_mark<'a>(bytes: &'a [u8], mark: &[u8]) -> Option<(&'a [u8], &'a [u8])> {
-    for place in 0..bytes.len() {
-        let (before, left) = bytes.split_at(place);
-        if let Some(behind) = left.strip_prefix(mark) {
-            return Some((before, behind));
-        }
-    }
-    None
 }
 
 /// The first case of a file, and what stands behind it; none where there is no more.

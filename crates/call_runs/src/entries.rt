@@ -15,8 +15,8 @@ pub(crate) struct Entry<'a> {
     pub(crate) text: &'a [u8],
 }
 
-// What stands before the first mark in these bytes, and what stands behind it.
-fn split_at_mark<'a>(bytes: &'a [u8], mark: &[u8]) -> Option<(&'a [u8], &'a [u8])> {
+/// What stands before the first mark in these bytes, and what stands behind it; none where there is no mark.
+pub(crate) fn split_at_mark<'a>(bytes: &'a [u8], mark: &[u8]) -> Option<(&'a [u8], &'a [u8])> {
     for place in 0..bytes.len() {
         let (before, left) = bytes.split_at(place);
         if let Some(behind) = left.strip_prefix(mark) {
