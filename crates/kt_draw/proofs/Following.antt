@@ -1,6 +1,7 @@
 -- A log that is drawn while its rows are read.
 use Rattle.std.proofs.Common.{◌≡◌, ◌∙◌, ◌<◌, ◌≤◌, ◌+◌, ◌-◌, ◌⊎◌, ℕ, zero, suc, nat_lt, if◌then◌else◌, Bool, true, false, Option, Some, None, List, [], ◌∷◌, ◌++◌, length, take, drop, refl, sym, ap, subst, append_assoc, arith, inl, inr}
 use Rattle.std.proofs.lemmas.Bool.{ltb-true, ltb-false}
+use Rattle.std.proofs.lemmas.Bool.Decides.{nat_tests}
 use Rattle.std.proofs.lemmas.List.{append-nil, drop-append-le, drop_all, length_push, length-take, length-take-le, take-append-drop, take-append-le, take-take, take_all}
 use Rattle.std.proofs.lemmas.Option.{slice_get_within}
 use Rattle.std.proofs.Math.Seq.{take-append_seam}
@@ -286,3 +287,14 @@ pub reading_undrawn : (span : Span) (r : Reading) (rows : List Event) (kept coun
     → IsNoPicture span rows why
 reading_undrawn span r rows kept count seen why h kept_is count_is seen_is none =
     not_pictured [] span rows kept count seen r.breach (subst (λ (n : ℕ). IsReadTo rows n r.breach) (sym kept_is) h.read) (count_is ∙ h.count) seen_is why none
+
+-- the row that breaks a rule, where it is one of the picture, and where it is none
+pub drawn_then : (kept last : ℕ) (breach drawn : Option Breach) → kept < last → drawn ≡ breach → drawn ≡ breach_drawn kept last breach
+drawn_then kept last breach drawn low is =
+    let test : nat_lt kept last ≡ true = grind (arith, nat_tests) in
+    is ∙ ap (λ (b : Bool). if b then breach else None) (sym test)
+
+pub drawn_else : (kept last : ℕ) (breach drawn : Option Breach) → last ≤ kept → drawn ≡ None → drawn ≡ breach_drawn kept last breach
+drawn_else kept last breach drawn high is =
+    let test : nat_lt kept last ≡ false = grind (arith, nat_tests) in
+    is ∙ ap (λ (b : Bool). if b then breach else None) (sym test)

@@ -1,6 +1,6 @@
 //! Rows of a stored log drawn, with what certificates tell of it.
 
-ghost use Rattle.std.specs.Prelude.{◌≡◌, [], IfOk, IfErr, OnOk};
+ghost use Rattle.std.specs.Prelude.{◌≡◌, IfOk, IfErr};
 ghost use Rattle.kt_meaning.specs.Answers.{IsCheckerAnswer};
 ghost use Rattle.kt_draw.specs.Drawn.{answer_sentence, IsCertifiedPicture, IsOrphanDrawn, IsUndrawnLog, orphan_told};
 ghost use Rattle.kt_draw.specs.Followed.{ReadingOf};
@@ -56,20 +56,9 @@ fn orphan_in(
         Verdict::No {
             why: Why::Orphan,
             ..
-        } => match explain(alloc, log, certificates, verdict) {
-            Ok(told) => Ok(orphan_told(&told)),
-            Err(Memory) => Err(Memory),
-        },
+        } => Ok(orphan_told(&explain(alloc, log, certificates, verdict)?)),
         _ => Ok(None),
     }
-}
-
-// The line of an answer, as a sentence.
-fn line_of(alloc: Global, verdict: &Verdict) -> Result<String, Memory>
-    ensures { IfOk result (λ line. line.bytes.items ≡ answer_sentence verdict.now) }
-{
-    let line = format!(in alloc; "The checker answers: {verdict}.")?;
-    Ok(line)
 }
 
 // The orphan that is told of an answer.
@@ -82,22 +71,20 @@ fn orphan_told(told: &Explanation) -> Option<MsgNo>
     }
 }
 
+// The line of an answer, as a sentence.
+fn line_of(alloc: Global, verdict: &Verdict) -> Result<String, Memory>
+    ensures { IfOk result (λ line. line.bytes.items ≡ answer_sentence verdict.now) }
+{
+    Ok(format!(in alloc; "The checker answers: {verdict}.")?)
+}
+
 // A log of which all rows are read.
 fn read_log(alloc: Global, log: &SpaceTime, span: Span) -> Result<Reading, Memory>
     ensures { IfOk result (λ r. ReadingOf r span log.now.rows) }
 {
     let mut reading = Reading::new(alloc, span)?;
-    read_rows(&mut reading, log, span)?;
-    Ok(reading)
-}
-
-// Reads all rows of a log.
-fn read_rows(reading: &mut Reading, log: &SpaceTime, span: Span) -> Result<(), Memory>
-    requires { ReadingOf reading.old span [] }
-    ensures { OnOk result (ReadingOf reading.new span log.now.rows) }
-{
     for row in log.rows() {
         reading.feed(row, span)?;
     }
-    Ok(())
+    Ok(reading)
 }

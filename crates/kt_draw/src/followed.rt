@@ -10,7 +10,7 @@ ghost use Rattle.kt_picture.specs.DiagramOf.{SheetOf};
 ghost use Rattle.kt_draw.specs.Drawn.{first_row};
 ghost use Rattle.kt_draw.specs.Followed.{FollowedOf, last_wanted};
 
-use crate::span::{Span, before_of, last_wanted};
+use crate::span::{Span, first_row, last_wanted};
 use kt_base::Memory;
 use kt_picture::{Diagram, Sheet};
 use kt_rules::LegalFault;
@@ -39,17 +39,14 @@ impl Followed {
         ensures before { IfOk result (λ f. f.before ≡ first_row span.from - 1) }
         ensures last { IfOk result (λ f. f.last ≡ last_wanted (first_row span.from - 1) span.to) }
     {
-        let before = before_of(span);
-        let walk = Walk::new(alloc)?;
-        let diagram = Diagram::new(alloc);
-        let last = last_wanted(before, span.to);
+        let before = first_row(span.from).saturating_sub(1);
         Ok(Followed {
             alloc,
-            walk,
-            diagram,
+            walk: Walk::new(alloc)?,
+            diagram: Diagram::new(alloc),
             sheet: None,
             before,
-            last,
+            last: last_wanted(before, span.to),
         })
     }
 

@@ -1,14 +1,13 @@
 //! Pictures of stored logs: which rows are drawn, up to the first one that breaks a rule.
 //!
 //! **What to change where:** row by row `streaming.rt`, `reading.rt`, `followed.rt`; with certificates `drawing.rt`;
-//! which rows `span.rt`; how far a log is read `reach.rt`; `fault.rt`; as definitions `specs/Drawn`,
+//! which rows `span.rt`; `fault.rt`; as definitions `specs/Drawn`,
 //! `specs/Followed`.
 #![tactic(auto)]
 
 mod drawing;
 mod fault;
 mod followed;
-mod reach;
 mod reading;
 mod span;
 mod streaming;

@@ -9,8 +9,7 @@ ghost use Rattle.kt_draw.specs.Followed.{AreRowsRead, ReadingOf};
 
 use crate::fault::DrawFault;
 use crate::followed::Followed;
-use crate::reach::Reach;
-use crate::span::{Span, window_of};
+use crate::span::{Span, last_drawn};
 use kt_base::Memory;
 use kt_picture::{Breach, Evidence, caption};
 use kt_plan::Names;
@@ -86,18 +85,11 @@ impl Reading {
             evidence.now.certificates.now evidence.now.orphan line.now text.items) }
         ensures fault { (read : List Event) → ReadingOf self.old span read → IfErr result (IsUndrawnLog span read) }
     {
-        let reach = Reach {
-            kept: self.followed.rows(),
-            breach: self.breach,
-        };
-        match window_of(self.count, reach.seen(), span) {
-            Ok(window) => {
-                let sheet = self.followed.sheet()?;
-                let breach = reach.breach_drawn(window.last);
-                let text = sheet.picture(alloc, rows, breach, evidence, names, line)?;
-                Ok(text)
-            }
-            Err(why) => Err(DrawFault::Picture(why)),
-        }
+        let kept = self.followed.rows();
+        let seen = kept + usize::from(self.breach.is_some());
+        let last = last_drawn(self.count, seen, span)?;
+        let breach = if kept < last { self.breach } else { None };
+        let sheet = self.followed.sheet()?;
+        Ok(sheet.picture(alloc, rows, breach, evidence, names, line)?)
     }
 }

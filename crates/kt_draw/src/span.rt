@@ -1,8 +1,8 @@
 //! Which rows of a log are drawn.
 
-ghost use Rattle.std.specs.Prelude.{◌≡◌, ◌≤◌, ◌<◌, ◌+◌, ◌-◌, ◌^◌, IfOk, IfErr, MatchBool};
+ghost use Rattle.std.specs.Prelude.{◌≡◌, ◌≤◌, ◌<◌, ◌^◌, IfOk, IfErr, MatchBool};
 ghost use Rattle.kt_draw.specs.Drawn.{HasRows, IsNoWindow, IsShort, HasLast, first_row, last_row};
-ghost use Rattle.kt_draw.specs.Followed.{columns_wanted, last_wanted};
+ghost use Rattle.kt_draw.specs.Followed.{last_wanted};
 
 use crate::fault::PictureFault;
 
@@ -17,18 +17,10 @@ pub struct Span {
     pub to: Option<u32>,
 }
 
-/// The rows that are drawn: the number of the first one and of the last one.
-#[derive(Clone, Copy)]
-pub(crate) struct Window {
-    pub(crate) first: usize,
-    pub(crate) last: usize,
-}
-
-/// The rows that are drawn of a log with so many rows, of which so many are read.
-pub(crate) fn window_of(rows: usize, seen: usize, span: Span) -> Result<Window, PictureFault>
+/// The number of the last row that is drawn of a log with so many rows, of which so many are read.
+pub(crate) fn last_drawn(rows: usize, seen: usize, span: Span) -> Result<usize, PictureFault>
     requires { seen ≤ 2 ^ 25 }
-    ensures first { IfOk result (λ w. w.first ≡ first_row span.from) }
-    ensures last { IfOk result (λ w. w.last ≡ last_row seen span.to) }
+    ensures last { IfOk result (λ last. last ≡ last_row seen span.to) }
     ensures rows { IfOk result (λ _. HasRows rows seen span) }
     ensures short { IfOk result (λ _. IsShort seen span) }
     ensures fault { IfErr result (IsNoWindow rows seen span) }
@@ -41,15 +33,7 @@ pub(crate) fn window_of(rows: usize, seen: usize, span: Span) -> Result<Window, 
     if last - first >= MOST_COLUMNS {
         return Err(PictureFault::TooLong);
     }
-    Ok(Window { first, last })
-}
-
-/// How many rows come before the first one that is asked for.
-pub(crate) fn before_of(span: Span) -> usize
-    ensures exact { result ≡ first_row span.from - 1 }
-    ensures few { result < 2 ^ 32 }
-{
-    first_row(span.from).saturating_sub(1)
+    Ok(last)
 }
 
 /// The last row that a picture may show where so many rows come before it.
@@ -58,26 +42,15 @@ pub(crate) fn last_wanted(before: usize, to: Option<u32>) -> usize
     ensures exact { result ≡ last_wanted before to }
     ensures after { before ≤ result }
 {
-    before + columns_wanted(before, to)
-}
-
-// How many columns a picture has at most, where so many rows come before it.
-fn columns_wanted(before: usize, to: Option<u32>) -> usize
-    ensures exact { result ≡ columns_wanted before to }
-    ensures few { result ≤ 4096 }
-{
-    let Some(to) = to else {
-        return MOST_COLUMNS;
+    let columns = match to {
+        Some(to) => (to as usize).saturating_sub(before),
+        None => MOST_COLUMNS,
     };
-    let columns = (to as usize).saturating_sub(before);
-    if columns < MOST_COLUMNS {
-        columns
-    } else {
-        MOST_COLUMNS
-    }
+    before + columns.min(MOST_COLUMNS)
 }
 
-fn first_row(from: Option<u32>) -> usize
+/// The first row that is drawn.
+pub(crate) fn first_row(from: Option<u32>) -> usize
     ensures exact { result ≡ first_row from }
     ensures few { result < 2 ^ 32 }
 {

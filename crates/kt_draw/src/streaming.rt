@@ -1,9 +1,8 @@
 //! A stored log drawn row by row.
 
-ghost use Rattle.std.specs.Prelude.{◌≡◌, [], ℕ, List, Option, IfOk, IfErr};
+ghost use Rattle.std.specs.Prelude.{◌≡◌, ℕ, List, Option, IfOk, IfErr};
 ghost use Rattle.kt_log_text.specs.Reading.{IsUnread, rows_unread};
 ghost use Rattle.kt_draw.specs.Drawn.{IsNoPictureOf, IsPictureOf};
-ghost use Rattle.kt_draw.specs.Followed.{ReadingOf};
 
 use crate::fault::DrawFault;
 use crate::reading::Reading;
@@ -50,23 +49,6 @@ pub fn draw_rows<L: Read + Drop>(
     ensures fault { (source : Option (List ℕ)) → rows.old ≡ rows_unread source → IfErr result (IsNoPictureOf span source) }
 {
     let mut reading = Reading::new(alloc, span)?;
-    draw_unread(alloc, &mut reading, rows, names, span)
-}
-
-// The picture of the rows that a reader gives, of which neither it nor what is drawn has seen any, or its fault.
-fn draw_unread<L: Read + Drop>(
-    alloc: Global,
-    reading: &mut Reading,
-    rows: &mut RowReader<L>,
-    names: &Names,
-    span: Span,
-) -> Result<Vec<u8>, DrawFault>
-    requires unread { IsUnread rows.old }
-    requires none_read { ReadingOf reading.old span [] }
-    ensures picture { (source : Option (List ℕ)) → rows.old ≡ rows_unread source
-        → IfOk result (λ text. IsPictureOf names.now span source text.items) }
-    ensures fault { (source : Option (List ℕ)) → rows.old ≡ rows_unread source → IfErr result (IsNoPictureOf span source) }
-{
     while let Some(row) = rows.next()? {
         reading.feed(&row, span)?;
     }

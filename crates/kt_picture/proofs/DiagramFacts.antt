@@ -1,10 +1,11 @@
 -- Diagrams, one row after another.
-use Rattle.std.proofs.Common.{◌≡◌, ◌∙◌, ◌<◌, ◌≤◌, ◌+◌, ◌-◌, ℕ, zero, suc, nat_lt, Bool, true, false, Option, Some, None, List, [], ◌∷◌, ◌++◌, length, take, drop, fold, map, filter, set, cond, refl, sym, ap, subst, arith, append_assoc, inl, inr, length-append}
-use Rattle.std.specs.Prelude.{◌||◌, ◌⊎◌}
+use Rattle.std.proofs.Common.{◌≡◌, ◌∙◌, ◌<◌, ◌≤◌, ◌+◌, ℕ, zero, suc, nat_lt, Bool, true, false, Option, Some, None, List, [], ◌∷◌, ◌++◌, length, take, drop, fold, map, filter, set, cond, refl, sym, ap, subst, arith, append_assoc, inl, inr, length-append}
+use Rattle.std.specs.Prelude.{◌||◌, ◌⊎◌, if◌then◌else◌}
+use Rattle.std.specs.Int.{from_bool}
 use Rattle.std.specs.List.{range_with_len, slice_get}
 use Rattle.std.proofs.Math.Seq.{drop-append_seam, take-append_seam}
 use Rattle.std.proofs.lemmas.Bool.{cases_eq}
-use Rattle.std.proofs.lemmas.List.{append-nil, length-drop, map-append, take_all}
+use Rattle.std.proofs.lemmas.List.{append-nil, length-drop, map-append}
 use Rattle.std.proofs.lemmas.List.Sums.{fold-append}
 use Rattle.kt_base.specs.Sets.{has}
 use Rattle.kt_spacetime.specs.declared.event.Event.{Event}
@@ -18,13 +19,17 @@ use Rattle.kt_picture.specs.declared.diagram.Sheet.{Sheet}
 use Rattle.kt_picture.specs.declared.entry.Entry.{Entry}
 use Rattle.kt_picture.specs.DiagramOf.{DiagramOf, HasRowsFor, SheetOf, seen_in}
 use Rattle.kt_picture.specs.Evidence.{chained_by, link_of, reason_of}
-use Rattle.kt_picture.specs.Followed.{AreFollowed, IsFollowed, plain_at, plain_of, told_rows}
+use Rattle.kt_picture.specs.Followed.{AreFollowed, IsFollowed, plain_of, told_rows}
 use Rattle.kt_picture.specs.KnownOf.{KnownOf}
 use Rattle.kt_picture.specs.Lanes.{is_named, lanes_in, names_process}
-use Rattle.kt_picture.specs.KnownAtRow.{KnownAtRow, seen_before, seen_after, shown_rows, cut_in, cut_rows}
-use Rattle.kt_picture.specs.Window.{end_of}
+use Rattle.kt_picture.specs.KnownAtRow.{KnownAtRow, plain_at, seen_before, seen_after, shown_rows, stretch_from, cut_in, cut_rows}
 use Rattle.kt_picture.proofs.LaneFacts.{same_lanes}
 use Rattle.kt_picture.proofs.WindowFacts.{cuts_push, plain_push, seen_column, told_all}
+
+-- a test as a number
+pub byte_is : (b : Bool) → from_bool b ≡ (if b then 1 else 0)
+byte_is true = refl
+byte_is false = refl
 
 -- what is known after one more row of the window
 pub seen_push : (front window : List Event) (row : Event) → seen_in front (window ++ row ∷ []) ≡ seen_after (seen_in front window) row
@@ -90,7 +95,7 @@ same_reason names rows log certificates row (inr none) =
 -- the window of a diagram, as a sheet has it
 pub sheet_of : (d : Diagram) (w : WalkParts) (front window : List Event) (s : Sheet) → DiagramOf d w front window → s.named ≡ d.named
     → s.columns ≡ d.known.column → s.before + s.columns ≡ w.rows
-    → s.window.shown.items ≡ told_rows (front ++ window) d.entries.items → s.window.cuts.items ≡ d.cuts.items → s.window.ends.items ≡ map (end_of (seen_in front window)) (range_with_len 0 64)
+    → s.shown.items ≡ told_rows (front ++ window) d.entries.items → s.cuts.items ≡ d.cuts.items → s.ends.items ≡ map (stretch_from (seen_in front window)) (range_with_len 0 64)
     → SheetOf s (front ++ window) (length front)
 sheet_of d w front window s h named columns rows shown cuts ends =
     let log = front ++ window in
@@ -105,7 +110,7 @@ sheet_of d w front window s h named columns rows shown cuts ends =
       columns = columns ∙ column ∙ ap length (sym tail);
       shown = shown ∙ told_all log (seen_before front) window d.entries.items h.plain ∙ (λ j. shown_rows log (seen_before (sym head j)) (sym tail j));
       cuts = cuts ∙ h.cuts ∙ (λ j. cut_rows (seen_before (sym head j)) (sym tail j));
-      ends = ends ∙ (λ j. map (end_of (fold seen_after (seen_before (sym head j)) (sym tail j))) (range_with_len 0 64));
+      ends = ends ∙ (λ j. map (stretch_from (fold seen_after (seen_before (sym head j)) (sym tail j))) (range_with_len 0 64));
     }
 
 -- the columns of a diagram: one for each row of the window so far
@@ -143,7 +148,3 @@ set_each P xs i y within before here k e low at = elim (cases_eq k i) [
   | inl same ↦ subst P (some_same (sym (get_set_same xs i y within) ∙ ap (slice_get (set xs i y)) (sym same) ∙ at)) here
   | inr other ↦ before k e (omega (arith, low, other)) (sym (get_set_other xs i k y other) ∙ at)
 ]
-
--- the rows from a place on, as they are read
-pub tail_rows : (rows : List Event) (before : ℕ) → take (length rows - before) (drop before rows) ≡ drop before rows
-tail_rows rows before = take_all (length rows - before) (drop before rows) (omega (arith, length-drop before rows))

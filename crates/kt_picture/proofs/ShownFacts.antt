@@ -47,8 +47,8 @@ pub record ShowsRow (rows : List Event) (before i : ℕ) (s : Shown) : Type 0 wh
   pub at : slice_get rows (before + i) ≡ Some s.event
   pub number : s.row ≡ before + i + 1
   pub column : s.column ≡ i + 1
-  pub up : s.up ≡ (past (take (before + i) rows)).up (process_of s.event)
-  pub open_in : s.open_in ≡ (past (take (before + i) rows)).open_in (process_of s.event)
+  pub up : s.stretch.up ≡ (past (take (before + i) rows)).up (process_of s.event)
+  pub open_in : s.stretch.open_in ≡ (past (take (before + i) rows)).open_in (process_of s.event)
   pub undone : s.is_undone ≡ is_message_undone rows s.row s.event
   pub taken_back : s.is_taken_back ≡ is_receive_undone rows s.event (drop (before + i + 1) rows)
   pub in_transit : s.is_in_transit ≡ is_sent_in_transit rows s.row s.event

@@ -1,11 +1,9 @@
 -- What is known at each row of the window, one row after another.
-use Rattle.std.proofs.Common.{◌≡◌, ◌∙◌, ◌<◌, ◌+◌, ℕ, zero, suc, Bool, false, Some, None, List, [], ◌∷◌, ◌++◌, length, take, drop, get_or, refl, sym, ap, fold, arith, map, append_assoc}
+use Rattle.std.proofs.Common.{◌≡◌, ◌∙◌, ◌+◌, ℕ, zero, suc, false, Some, None, List, [], ◌∷◌, ◌++◌, length, take, drop, refl, sym, ap, fold, arith, map, append_assoc}
 use Rattle.std.proofs.lemmas.List.{append-nil}
 use Rattle.std.proofs.lemmas.List.Sums.{fold-append}
-use Rattle.std.proofs.lemmas.List.Folds.{list_any_more}
-use Rattle.std.specs.List.{list_any, slice_get, slice_index}
-use Rattle.std.specs.Prelude.{◌||◌, slice_set}
-use Rattle.kt_plan.proofs.NameFacts.{list_any-map}
+use Rattle.std.specs.List.{slice_get, slice_index}
+use Rattle.std.specs.Prelude.{slice_set}
 use Rattle.kt_spacetime.specs.declared.event.Event.{Event}
 use Rattle.kt_spacetime.specs.Events.{process_of}
 use Rattle.kt_meaning.specs.Past.{Past, past, after}
@@ -17,12 +15,11 @@ use Rattle.kt_picture.specs.declared.entry.Entry.{Entry}
 use Rattle.kt_picture.specs.declared.known.Known.{Known}
 use Rattle.kt_picture.specs.declared.shown.Shown.{Shown}
 use Rattle.kt_picture.specs.declared.shown.CutMark.{CutMark}
-use Rattle.kt_picture.specs.declared.shown.End.{End}
-use Rattle.kt_picture.specs.Fates.{receives}
-use Rattle.kt_picture.specs.Followed.{event_of, plain_at, plain_of, plain_rows, told_at, told_rows}
+use Rattle.kt_picture.specs.declared.shown.Stretch.{Stretch}
+use Rattle.kt_picture.specs.Followed.{event_of, plain_of, plain_rows, told_rows}
 use Rattle.kt_picture.specs.KnownOf.{KnownOf}
-use Rattle.kt_picture.specs.KnownAtRow.{KnownAtRow, seen_before, seen_after, shown_rows, taken_after, places_after, cut_in, cut_rows}
-use Rattle.kt_picture.specs.Window.{seen_at, end_of}
+use Rattle.kt_picture.specs.KnownAtRow.{KnownAtRow, plain_at, seen_before, seen_after, shown_rows, stretch_from, taken_after, told_at, places_after, cut_in, cut_rows}
+use Rattle.kt_picture.specs.Window.{seen_at}
 
 -- the rest begins with the next item
 pub drop_item : {X : Type 0} (xs : List X) (i : ℕ) (x : X) → slice_get xs i ≡ Some x → drop i xs ≡ x ∷ drop (i + 1) xs
@@ -56,34 +53,31 @@ known_next k t w v s rows row h walk column latest taken places = record {
   places = places ∙ ap (λ (p : Past). places_after p k.taken k.places row) (sym h.past) ∙ (λ j. places_after s.past (h.taken j) (h.places j) row);
 }
 
+-- the stretch of a lane, as it was found
+pub stretch_is : (k : Known) (w : WalkParts) (s : KnownAtRow) (rows : List Event) (p : ℕ) (v : Stretch) → KnownOf k w s rows → v.since ≡ slice_index k.latest p → v.up ≡ (past rows).up p → v.open_in ≡ (past rows).open_in p
+    → v ≡ stretch_from s p
+stretch_is k w s rows p v h since up open_in =
+    λ j. record {
+      since = (since ∙ ap (λ (l : List ℕ). slice_index l p) h.latest) j;
+      up = (up ∙ ap (λ (q : Past). q.up p) (sym h.past)) j;
+      open_in = (open_in ∙ ap (λ (q : Past). q.open_in p) (sym h.past)) j;
+    }
+
 -- what a row shows, as it was found, but for what becomes of it
-pub plain_is : (k : Known) (w : WalkParts) (s : KnownAtRow) (rows : List Event) (row : Event) (p : ℕ) (v : Shown) → KnownOf k w s rows → p ≡ process_of row
-    → v.row ≡ length rows + 1 → v.column ≡ k.column + 1 → v.event ≡ row → v.since ≡ slice_index k.latest p → v.up ≡ (past rows).up p → v.open_in ≡ (past rows).open_in p
+pub plain_is : (k : Known) (w : WalkParts) (s : KnownAtRow) (rows : List Event) (row : Event) (v : Shown) → KnownOf k w s rows
+    → v.row ≡ length rows + 1 → v.column ≡ k.column + 1 → v.event ≡ row → v.stretch ≡ stretch_from s (process_of row)
     → v.is_undone ≡ false → v.is_taken_back ≡ false → v.is_in_transit ≡ false → v.decision ≡ None → v ≡ plain_at s row
-plain_is k w s rows row p v h process number column event since up open_in undone taken_back in_transit decision =
+plain_is k w s rows row v h number column event stretch undone taken_back in_transit decision =
     let next : length rows + 1 ≡ s.past.rows + 1 = ap (λ (n : ℕ). n + 1) (sym (rows_length rows) ∙ ap (λ (q : Past). q.rows) (sym h.past)) in
     λ j. record {
       row = (number ∙ next) j;
       column = (column ∙ ap (λ (n : ℕ). n + 1) h.column) j;
       event = event j;
-      since = (since ∙ (λ i. slice_index (h.latest i) (process i))) j;
-      up = (up ∙ (λ i. (sym h.past i).up (process i))) j;
-      open_in = (open_in ∙ (λ i. (sym h.past i).open_in (process i))) j;
+      stretch = stretch j;
       is_undone = undone j;
       is_taken_back = taken_back j;
       is_in_transit = in_transit j;
       decision = decision j;
-    }
-
--- how a lane goes on, as it was found
-pub end_is : (k : Known) (w : WalkParts) (s : KnownAtRow) (rows : List Event) (p : ℕ) (v : End) → KnownOf k w s rows → v.process ≡ p → v.since ≡ slice_index k.latest p → v.up ≡ (past rows).up p → v.open_in ≡ (past rows).open_in p
-    → v ≡ end_of s p
-end_is k w s rows p v h process since up open_in =
-    λ j. record {
-      process = process j;
-      since = (since ∙ ap (λ (l : List ℕ). slice_index l p) h.latest) j;
-      up = (up ∙ ap (λ (q : Past). q.up p) (sym h.past)) j;
-      open_in = (open_in ∙ ap (λ (q : Past). q.open_in p) (sym h.past)) j;
     }
 
 -- one more row of the window
@@ -117,12 +111,3 @@ told_all upto s (row ∷ window) (x ∷ entries) e =
     let tail : map plain_of entries ≡ plain_rows (seen_after s row) window = cc in
     let events = events_are (seen_after s row) window entries tail in
     λ j. told_at upto (head j) (events j) ∷ told_all upto (seen_after s row) window entries tail j
-
--- no row of the first entries receives a message, nor does the next one
-pub none_received : (msg : ℕ) (entries : List Entry) (i : ℕ) (x : Entry) → i < length entries → get_or entries i x ≡ x → receives msg (event_of x) ≡ false
-    → list_any (receives msg) (map event_of (take i entries)) ≡ false → list_any (receives msg) (map event_of (take (i + 1) entries)) ≡ false
-none_received msg entries i x within at fails none =
-    let test : Entry → Bool = λ e. receives msg (event_of e) in
-    let before = sym (list_any-map (receives msg) event_of (take i entries)) ∙ none in
-    let here = ap test at ∙ fails in
-    list_any-map (receives msg) event_of (take (i + 1) entries) ∙ list_any_more test entries i x within ∙ (λ j. before j || here j)

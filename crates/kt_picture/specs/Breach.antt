@@ -22,9 +22,7 @@ breach_shown number column b = record {
   row = number;
   column = column;
   event = b.event;
-  since = 0;
-  up = true;
-  open_in = None;
+  stretch = record { since = 0; up = true; open_in = None };
   is_undone = false;
   is_taken_back = false;
   is_in_transit = true;

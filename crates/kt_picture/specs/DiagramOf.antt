@@ -30,9 +30,9 @@ pub record SheetOf (s : Sheet) (log : List Event) (before : ℕ) : Type 0 where
   pub before_is : s.before ≡ before
   pub within : before ≤ length log
   pub columns : s.columns ≡ length (drop before log)
-  pub shown : s.window.shown.items ≡ shown_of log before
-  pub cuts : s.window.cuts.items ≡ cuts_of log before
-  pub ends : s.window.ends.items ≡ ends_of log before
+  pub shown : s.shown.items ≡ shown_of log before
+  pub cuts : s.cuts.items ≡ cuts_of log before
+  pub ends : s.ends.items ≡ ends_of log before
 
 -- rows begin with those of a log, or there are no certificates, whose chains ask for them
 abbrev pub HasRowsFor : List Event → List Event → List Certificate → Type 0

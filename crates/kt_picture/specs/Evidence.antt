@@ -1,6 +1,6 @@
 -- What certificates add to a picture: whose chain has a message, and why a member took part.
-use Rattle.std.specs.Prelude.{◌==◌, ℕ, zero, suc, nat_lt, if◌then◌else◌, Bool, Option, Some, None, List, [], ◌++◌, codes, length, find}
-use Rattle.std.specs.List.{list_any, flat_map}
+use Rattle.std.specs.Prelude.{◌==◌, ℕ, zero, suc, nat_lt, if◌then◌else◌, Bool, Option, Some, None, List, [], ◌∷◌, ◌++◌, codes, length, find}
+use Rattle.std.specs.List.{list_any, flat_map, concat}
 use Rattle.std.specs.Fmt.{decimal}
 use Rattle.std.specs.Option.{option_map}
 use Rattle.kt_spacetime.specs.declared.event.Event.{Event}
@@ -40,13 +40,9 @@ chain_listed (Some c) p = chain_of_member (find (λ m. m.0 == p) c.members)
 abbrev pub chain_for : List Certificate → ℕ → ℕ → List ℕ
 chain_for certificates inst p = chain_listed (find (λ c. c.inst == inst) certificates) p
 
--- between whom a message went
-abbrev pub ends_between : List (List ℕ) → ℕ → ℕ → List ℕ
-ends_between names p to = codes ":" ++ (name_text names p ++ (codes "&gt;" ++ name_text names to))
-
--- the same, as the row that sent it says
+-- between whom a message went, as the row that sent it says
 abbrev pub ends_of_message : List (List ℕ) → Option Event → List ℕ
-ends_of_message names (Some (Sent p to body)) = ends_between names p to
+ends_of_message names (Some (Sent p to body)) = concat (codes ":" ∷ name_text names p ∷ codes "&gt;" ∷ name_text names to ∷ [])
 ends_of_message names _ = []
 
 -- a message of a chain: its number and between whom it went

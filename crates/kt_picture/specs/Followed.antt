@@ -1,17 +1,16 @@
 -- The messages of the window, followed row by row.
-use Rattle.std.specs.Prelude.{◌≡◌, ℕ, ◌+◌, nat_le, false, option_map, slice_index, if◌then◌else◌, Option, Some, None, List, [], ◌∷◌, length, map, slice_get}
+use Rattle.std.specs.Prelude.{◌≡◌, ℕ, nat_le, option_map, if◌then◌else◌, Option, Some, None, List, [], ◌∷◌, length, map, slice_get}
 use Rattle.kt_spacetime.specs.declared.event.Event.{Event}
 use Rattle.kt_spacetime.specs.declared.event.Event.TheVariants.{Sent, Received, Dropped}
 use Rattle.kt_rules.specs.declared.traces.Trace.{Trace}
-use Rattle.kt_spacetime.specs.Events.{process_of}
 use Rattle.kt_meaning.specs.Past.{Past}
 use Rattle.kt_rules.specs.Traces.{trace_of}
 use Rattle.kt_picture.specs.declared.entry.Entry.{Entry}
 use Rattle.kt_picture.specs.declared.entry.Message.{Message}
 use Rattle.kt_picture.specs.declared.shown.Shown.{Shown}
 use Rattle.kt_walk.specs.Keeping.{kept_trace}
-use Rattle.kt_picture.specs.KnownAtRow.{KnownAtRow, seen_after}
-use Rattle.kt_picture.specs.Fates.{receives, is_message_undone, is_receive_undone, is_sent_in_transit, joined_decision}
+use Rattle.kt_picture.specs.KnownAtRow.{KnownAtRow, plain_at, seen_after, told_at}
+use Rattle.kt_picture.specs.Fates.{receives}
 
 -- the message that a row receives or drops
 abbrev pub message_taken : Event → Option ℕ
@@ -63,42 +62,12 @@ plain_of e = e.plain
 abbrev pub event_of : Entry → Event
 event_of e = e.plain.event
 
--- what a row shows, where this is known at it, but for what becomes of it
-abbrev pub plain_at : KnownAtRow → Event → Shown
-plain_at s row = record {
-  row = s.past.rows + 1;
-  column = s.column + 1;
-  event = row;
-  since = slice_index s.latest (process_of row);
-  up = s.past.up (process_of row);
-  open_in = s.past.open_in (process_of row);
-  is_undone = false;
-  is_taken_back = false;
-  is_in_transit = false;
-  decision = None;
-}
-
--- so of the rows of a window
+-- what the rows of a window show, where this is known at the first one, but for what becomes of them
 abbrev pub plain_rows : KnownAtRow → List Event → List Shown
 plain_rows s [] = []
 plain_rows s (row ∷ rest) = plain_at s row ∷ plain_rows (seen_after s row) rest
 
--- what a row shows with what becomes of it by the end of these rows, where the window goes on with the rest
-abbrev pub told_at : List Event → Shown → List Event → Shown
-told_at upto v rest = record {
-  row = v.row;
-  column = v.column;
-  event = v.event;
-  since = v.since;
-  up = v.up;
-  open_in = v.open_in;
-  is_undone = is_message_undone upto v.row v.event;
-  is_taken_back = is_receive_undone upto v.event rest;
-  is_in_transit = is_sent_in_transit upto v.row v.event;
-  decision = joined_decision upto v.event;
-}
-
--- so of the rows of a window
+-- what the rows of a window show with what becomes of them by the end of these rows
 abbrev pub told_rows : List Event → List Entry → List Shown
 told_rows upto [] = []
 told_rows upto (e ∷ rest) = told_at upto e.plain (map event_of rest) ∷ told_rows upto rest

@@ -1,11 +1,12 @@
 -- What each row of the window shows.
-use Rattle.std.specs.Prelude.{ℕ, ◌+◌, not, bytes_eq, if◌then◌else◌, is_some, List, [], ◌∷◌, ◌++◌, map, replicate, slice_index, slice_set}
+use Rattle.std.specs.Prelude.{ℕ, ◌+◌, false, not, bytes_eq, if◌then◌else◌, None, is_some, List, [], ◌∷◌, ◌++◌, map, replicate, slice_index, slice_set}
 use Rattle.std.specs.List.{range_with_len}
 use Rattle.kt_spacetime.specs.declared.event.Event.{Event}
 use Rattle.kt_spacetime.specs.declared.event.Event.TheVariants.{Took, Decided}
 use Rattle.kt_spacetime.specs.Events.{process_of}
 use Rattle.kt_meaning.specs.Past.{Past, past, after}
 use Rattle.kt_picture.specs.declared.shown.Shown.{Shown}
+use Rattle.kt_picture.specs.declared.shown.Stretch.{Stretch}
 use Rattle.kt_picture.specs.declared.shown.CutMark.{CutMark}
 use Rattle.kt_picture.specs.Fates.{is_message_undone, is_receive_undone, is_sent_in_transit, joined_decision}
 
@@ -47,20 +48,35 @@ seen_after s row = record {
   places = places_after s.past s.taken s.places row;
 }
 
--- what a row shows, where these rows go to the window's end, and the window goes on with the rest
-abbrev pub shown_at : List Event → KnownAtRow → Event → List Event → Shown
-shown_at upto s row rest = record {
+-- the stretch of a process's lane from its last row on
+abbrev pub stretch_from : KnownAtRow → ℕ → Stretch
+stretch_from s p = record { since = slice_index s.latest p; up = s.past.up p; open_in = s.past.open_in p }
+
+-- what a row shows, where this is known at it, but for what becomes of it
+abbrev pub plain_at : KnownAtRow → Event → Shown
+plain_at s row = record {
   row = s.past.rows + 1;
   column = s.column + 1;
   event = row;
-  since = slice_index s.latest (process_of row);
-  up = s.past.up (process_of row);
-  open_in = s.past.open_in (process_of row);
-  is_undone = is_message_undone upto (s.past.rows + 1) row;
-  is_taken_back = is_receive_undone upto row rest;
-  is_in_transit = is_sent_in_transit upto (s.past.rows + 1) row;
-  decision = joined_decision upto row;
+  stretch = stretch_from s (process_of row);
+  is_undone = false;
+  is_taken_back = false;
+  is_in_transit = false;
+  decision = None;
 }
+
+-- what a row shows with what becomes of it by the end of these rows, where the window goes on with the rest
+abbrev pub told_at : List Event → Shown → List Event → Shown
+told_at upto v rest = record v {
+  is_undone = is_message_undone upto v.row v.event;
+  is_taken_back = is_receive_undone upto v.event rest;
+  is_in_transit = is_sent_in_transit upto v.row v.event;
+  decision = joined_decision upto v.event;
+}
+
+-- the same, where this is known at the row
+abbrev pub shown_at : List Event → KnownAtRow → Event → List Event → Shown
+shown_at upto s row rest = told_at upto (plain_at s row) rest
 
 -- what the rows of a window show, one each
 abbrev pub shown_rows : List Event → KnownAtRow → List Event → List Shown

@@ -1,5 +1,5 @@
 -- The layers of a picture.
-use Rattle.std.specs.Prelude.{ℕ, ◌+◌, ◌-◌, ◌*◌, ◌/◌, ◌%◌, max, min, is_some, if◌then◌else◌, Bool, Option, Some, None, List, [], ◌∷◌, ◌++◌, codes, length, slice_index, slice_get}
+use Rattle.std.specs.Prelude.{ℕ, ◌+◌, ◌-◌, ◌*◌, ◌/◌, ◌%◌, max, min, is_some, if◌then◌else◌, Option, Some, None, List, [], ◌∷◌, ◌++◌, codes, length, slice_index, slice_get}
 use Rattle.std.specs.List.{flat_map, concat}
 use Rattle.std.specs.Fmt.{decimal}
 use Rattle.std.specs.Option.{option_map}
@@ -11,18 +11,18 @@ use Rattle.kt_picture.specs.declared.layers.Layer.TheVariants as layer
 use Rattle.kt_picture.specs.declared.layers.Thread.{Thread}
 use Rattle.kt_picture.specs.declared.layers.Thread.TheVariants as thread
 use Rattle.kt_picture.specs.declared.style.TheConstants.{STYLE, HEADS}
+use Rattle.kt_picture.specs.declared.legend.Sign.{Sign}
 use Rattle.kt_picture.specs.declared.mark.Mark.{Mark}
 use Rattle.kt_picture.specs.declared.mark.Mark.TheVariants as mark
 use Rattle.kt_picture.specs.declared.looks.Path.{Path}
 use Rattle.kt_picture.specs.declared.shown.CutMark.{CutMark}
-use Rattle.kt_picture.specs.declared.shown.End.{End}
 use Rattle.kt_picture.specs.declared.shown.Shown.{Shown}
 use Rattle.kt_picture.specs.Breach.{breach_shown}
 use Rattle.kt_picture.specs.Escaping.{escaped}
 use Rattle.kt_picture.specs.Lanes.{lane_of}
 use Rattle.kt_picture.specs.Legend.{legend_from, signs_of}
 use Rattle.kt_picture.specs.Looks.{path_text, x_of, y_of}
-use Rattle.kt_picture.specs.Marks.{arrow_of, figure_of, number_at, place_at, stretch_of, word_at}
+use Rattle.kt_picture.specs.Marks.{arrow_of, figure_of, number_at, stretch_of, word_at}
 use Rattle.kt_picture.specs.Texts.{drawn, mark_text, name_text}
 use Rattle.kt_picture.specs.View.{View}
 
@@ -82,12 +82,8 @@ abbrev pub right_of : View → ℕ
 right_of view = if is_some view.breach then view.columns else view.columns + 1
 
 -- the last stretch of a process's lane
-abbrev pub end_at : View → ℕ → Option End → Option Mark
-end_at view p None = None
-end_at view p (Some e) = Some (mark.Stretch (record { from = place_at view e.since p; until = right_of view; up = e.up; open_in = e.open_in }))
-
 abbrev pub end_of : View → ℕ → Option Mark
-end_of view p = end_at view p (slice_get view.ends p)
+end_of view p = option_map (λ s. mark.Stretch s (lane_of view.lanes p) (right_of view)) (slice_get view.ends p)
 
 -- where a cut crosses a lane: at a column, a little to the left for one instance or another
 abbrev pub cut_x : CutMark → ℕ → ℕ
@@ -134,15 +130,15 @@ marks_text view =
     codes "<g fill='none' stroke='#1d232b'>\n" ++ (rows_text layer.Stretches view ++ (lanes_text thread.Ends view
     ++ (flat_map (cut_text view) view.cuts ++ (rows_text layer.Arrows view ++ (rows_text layer.Figures view ++ breach_text view)))))
 
--- the legend, below this height
-abbrev pub legend_text : View → ℕ → List ℕ
-legend_text view top = flat_map mark_text (legend_from top 0 (signs_of view))
+-- the legend of these marks, below this height
+abbrev pub legend_text : List Sign → ℕ → List ℕ
+legend_text signs top = flat_map mark_text (legend_from top 0 signs)
 
 -- over them its words, the legend of the marks that it has, and where the line of text begins
 abbrev pub words_text : View → List ℕ
 words_text view =
     codes "</g>\n<g fill='#1d232b'>\n" ++ (lanes_text thread.Names view ++ (rows_text layer.Words view ++ (drawn (rule_of view)
-    ++ (legend_text view (top_of view) ++ concat (codes "<text x='12' y='" ∷ decimal (y_of (length view.lanes)) ∷ codes "' dy='10'>" ∷ [])))))
+    ++ (legend_text (signs_of view) (top_of view) ++ concat (codes "<text x='12' y='" ∷ decimal (y_of (length view.lanes)) ∷ codes "' dy='10'>" ∷ [])))))
 
 -- a picture: its size and style, its layers, and what is said below
 abbrev pub picture_text : View → List ℕ → List ℕ

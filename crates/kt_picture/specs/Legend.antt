@@ -1,5 +1,5 @@
 -- The legend of a picture: of the marks that it has, and of no others.
-use Rattle.std.specs.Prelude.{ℕ, ◌+◌, ◌*◌, ◌/◌, ◌%◌, ◌==◌, ◌||◌, is_some, filter, if◌then◌else◌, Bool, true, false, Option, Some, None, List, [], ◌∷◌, codes}
+use Rattle.std.specs.Prelude.{ℕ, ◌+◌, ◌*◌, ◌/◌, ◌%◌, ◌||◌, is_some, filter, Bool, true, false, List, [], ◌∷◌}
 use Rattle.std.specs.List.{list_any}
 use Rattle.kt_spacetime.specs.declared.event.Event.{Event}
 use Rattle.kt_spacetime.specs.declared.event.Event.TheVariants.{Sent, Received, Dropped, Began, Took, Ready, Unwilling, Decided, Failed, Refused}
@@ -57,7 +57,7 @@ row_shows view sign.Undone s = s.is_undone || s.is_taken_back
 row_shows view sign.Chain s = is_linked view s.event
 row_shows view sign.Transit s = s.is_in_transit
 row_shows view sign.Dropped s = is_dropped s.event
-row_shows view sign.Instance s = is_began s.event || is_some s.open_in
+row_shows view sign.Instance s = is_began s.event || is_some s.stretch.open_in
 row_shows view sign.Checkpoint s = is_took s.event
 row_shows view sign.Rollback s = is_ready s.event
 row_shows view sign.Decision s = is_decided s.event
@@ -66,19 +66,15 @@ row_shows view sign.Refusal s = is_refusal s.event
 row_shows view sign.Cut s = false
 row_shows view sign.Wrong s = false
 
--- whether a picture has a mark beside those of its rows: a cut that is drawn, or what is wrong
-abbrev pub has_beside : View → Sign → Bool
-has_beside view sign.Cut = list_any (λ c. c.is_new) view.cuts
-has_beside view sign.Wrong = is_some view.breach || is_some view.orphan
-has_beside view _ = false
-
--- whether a picture has a mark
+-- whether a picture has a mark: a cut that is drawn, what is wrong, or the mark of one of its rows
 abbrev pub has_sign : View → Sign → Bool
-has_sign view sign = list_any (row_shows view sign) view.shown || has_beside view sign
+has_sign view sign.Cut = list_any (λ c. c.is_new) view.cuts
+has_sign view sign.Wrong = is_some view.breach || is_some view.orphan
+has_sign view sign = list_any (row_shows view sign) view.shown
 
 -- the line of a mark at a place of the legend, whose lines come two by two from this height on
 abbrev pub sign_at : ℕ → ℕ → Sign → Mark
-sign_at top place sign = mark.Sign (record { sign = sign; x = 260 * (place % 2); y = top + 18 * (place / 2) })
+sign_at top place sign = mark.Sign sign (260 * (place % 2)) (top + 18 * (place / 2))
 
 -- so of marks one after another, from a place on
 abbrev pub legend_from : ℕ → ℕ → List Sign → List Mark

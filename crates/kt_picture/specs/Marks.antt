@@ -1,5 +1,5 @@
 -- Which marks show a row.
-use Rattle.std.specs.Prelude.{ℕ, ℤ, ◌-◌, ◌%◌, ◌==◌, ◌||◌, nat_lt, nat_le, is_some, slice_get, if◌then◌else◌, Bool, true, false, not, Option, Some, None, List}
+use Rattle.std.specs.Prelude.{ℕ, ℤ, ◌-◌, ◌%◌, ◌==◌, ◌||◌, nat_lt, nat_le, is_some, slice_get, if◌then◌else◌, Bool, true, false, not, Option, Some, None}
 use Rattle.kt_spacetime.specs.declared.event.Event.{Event}
 use Rattle.kt_spacetime.specs.declared.event.Event.TheVariants.{Sent, Received, Dropped, Began, Took, Ready, Unwilling, Decided, Closed, Failed, Refused}
 use Rattle.kt_spacetime.specs.Events.{process_of}
@@ -7,7 +7,6 @@ use Rattle.kt_picture.specs.declared.looks.Figure.{Figure}
 use Rattle.kt_picture.specs.declared.looks.Look.{Look}
 use Rattle.kt_picture.specs.declared.looks.Look.TheVariants as look
 use Rattle.kt_picture.specs.declared.looks.Outline.TheVariants as outline
-use Rattle.kt_picture.specs.declared.looks.Paint.{Paint}
 use Rattle.kt_picture.specs.declared.looks.Path.{Path}
 use Rattle.kt_picture.specs.declared.looks.Place.{Place}
 use Rattle.kt_picture.specs.declared.mark.Mark.{Mark}
@@ -29,7 +28,7 @@ place_of view s = place_at view s.column (process_of s.event)
 
 -- the stretch of a process's lane up to a row
 abbrev pub stretch_of : View → Shown → Mark
-stretch_of view s = mark.Stretch (record { from = place_at view s.since (process_of s.event); until = s.column; up = s.up; open_in = s.open_in })
+stretch_of view s = mark.Stretch s.stretch (lane_of view.lanes (process_of s.event)) s.column
 
 -- how an arrow looks whose send is undone, whose receive is, which is the orphan that stands out, which is in a chain
 abbrev pub arrow_look : Bool → Bool → Bool → Bool → Look
@@ -61,9 +60,6 @@ colour_for _ link = None
 abbrev pub look_of : View → Shown → ℕ → Look
 look_of view s msg = arrow_look s.is_undone s.is_taken_back (stands_out view.orphan msg) (is_some (view.link msg))
 
-abbrev pub paint_of : Look → Option ℕ → Paint
-paint_of look link = record { look = look; inst = colour_for look link }
-
 -- the column of the row that sent a message, where so many rows come before the window; 0 is the left end
 abbrev pub column_of : ℕ → ℕ → ℕ
 column_of before msg = msg - before
@@ -76,7 +72,7 @@ tail_of before msg column = if nat_lt column (column_of before msg) then column 
 abbrev pub arrow : View → Shown → ℕ → ℕ → Path
 arrow view s from msg = record {
   from = place_at view (tail_of view.before msg s.column) from;
-  figure = record { paint = paint_of (look_of view s msg) (view.link msg); outline = outline.To (place_of view s) };
+  figure = shape (look_of view s msg) (colour_for (look_of view s msg) (view.link msg)) (outline.To (place_of view s));
 }
 
 -- the short arrow of a message in transit, which points to its receiver's lane

@@ -14,11 +14,11 @@ abbrev pub view_in : Page → View
 view_in page = record {
   names = page.names.now;
   lanes = page.lanes.now;
-  before = page.before;
+  before = page.sheet.now.before;
   columns = page.columns;
-  shown = page.shown.now;
-  cuts = page.cuts.now;
-  ends = page.ends.now;
+  shown = page.sheet.now.shown.items;
+  cuts = page.sheet.now.cuts.items;
+  ends = page.sheet.now.ends.items;
   breach = page.breach;
   link = λ msg. link_at page.links.now msg;
   orphan = page.orphan;

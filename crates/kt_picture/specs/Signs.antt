@@ -1,5 +1,5 @@
 -- How the marks of the legend look, and what it says of them.
-use Rattle.std.specs.Prelude.{ℕ, true, false, Some, None, List, codes}
+use Rattle.std.specs.Prelude.{ℕ, false, Some, None, List, codes}
 use Rattle.kt_picture.specs.declared.looks.Figure.{Figure}
 use Rattle.kt_picture.specs.declared.legend.Sign.{Sign}
 use Rattle.kt_picture.specs.declared.legend.Sign.TheVariants as sign

@@ -1,5 +1,5 @@
 -- The texts of marks.
-use Rattle.std.specs.Prelude.{ℕ, ℤ, ◌+◌, ◌-◌, ◌%◌, nat_lt, slice_get, unsigned_abs, if◌then◌else◌, Bool, true, false, Option, Some, None, List, [], ◌∷◌, ◌++◌, codes}
+use Rattle.std.specs.Prelude.{ℕ, ℤ, ◌+◌, ◌-◌, ◌%◌, nat_lt, slice_get, unsigned_abs, if◌then◌else◌, Bool, Option, Some, None, List, [], ◌∷◌, ◌++◌, codes}
 use Rattle.std.specs.List.{concat}
 use Rattle.std.specs.Fmt.{decimal, signed_decimal}
 use Rattle.kt_base.specs.declared.words.Kind.TheVariants.{Checkpoint, Rollback}
@@ -80,13 +80,13 @@ line_text sign x y = concat (
 
 -- the text of a mark
 abbrev pub mark_text : Mark → List ℕ
-mark_text (mark.Stretch s) = stretch_text s.from s.until s.up s.open_in
+mark_text (mark.Stretch s lane until) = stretch_text (record { column = s.since; lane = lane }) until s.up s.open_in
 mark_text (mark.Crossing x lane) = concat (
     decimal x ∷ codes "," ∷ decimal (y_of lane - 15) ∷ codes " " ∷ decimal x ∷ codes "," ∷ decimal (y_of lane + 15) ∷ codes " " ∷ [])
 mark_text (mark.RowNumber row column) = concat (codes "<text class='top' x='" ∷ decimal (x_of column) ∷ codes "' y='20'>" ∷ decimal row ∷ codes "</text>\n" ∷ [])
 mark_text (mark.Word word) = word_text word.spot word.saying
 mark_text (mark.Rule rule column) = concat (codes "<text class='rule' x='" ∷ decimal (x_of column) ∷ codes "' y='34'>" ∷ rule_label rule ∷ codes "</text>\n" ∷ [])
-mark_text (mark.Sign line) = line_text line.sign line.x line.y
+mark_text (mark.Sign sign x y) = line_text sign x y
 
 -- the same of a mark that may not be there
 abbrev pub drawn : Option Mark → List ℕ

@@ -4,7 +4,7 @@ use Rattle.kt_spacetime.specs.declared.event.Event.{Event}
 use Rattle.kt_picture.specs.declared.breach.Breach.{Breach}
 use Rattle.kt_picture.specs.declared.shown.Shown.{Shown}
 use Rattle.kt_picture.specs.declared.shown.CutMark.{CutMark}
-use Rattle.kt_picture.specs.declared.shown.End.{End}
+use Rattle.kt_picture.specs.declared.shown.Stretch.{Stretch}
 
 -- the names of processes, and which of them have a lane; how many rows come before the window, how many columns there are,
 -- what its rows show, its permanent cuts, how lanes go on behind it, and the row after it that breaks a rule; in whose chain a
@@ -16,7 +16,7 @@ pub record View : Type 0 where
   pub columns : ℕ
   pub shown : List Shown
   pub cuts : List CutMark
-  pub ends : List End
+  pub ends : List Stretch
   pub breach : Option Breach
   pub link : ℕ → Option ℕ
   pub orphan : Option ℕ

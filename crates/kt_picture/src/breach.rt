@@ -3,7 +3,7 @@
 ghost use Rattle.std.specs.Prelude.{◌≡◌, IfOk};
 ghost use Rattle.kt_picture.specs.Breach.{breach_shown, caption_of};
 
-use crate::shown::Shown;
+use crate::shown::{Shown, Stretch};
 use crate::words::RuleName;
 use kt_base::Memory;
 use kt_spacetime::{Event, Rule};
@@ -36,9 +36,11 @@ impl Breach {
             row: number,
             column,
             event: self.event,
-            since: 0,
-            up: true,
-            open_in: None,
+            stretch: Stretch {
+                since: 0,
+                up: true,
+                open_in: None,
+            },
             is_undone: false,
             is_taken_back: false,
             is_in_transit: true,

@@ -1,9 +1,9 @@
 //! A space-time diagram under way: rows come one after another, and are not kept.
 
-ghost use Rattle.std.specs.Prelude.{◌≡◌, ◌≤◌, ◌<◌, ◌^◌, ◌+◌, ◌++◌, ◌∷◌, [], ℕ, List, Some, Err, IfOk, OnOk, OnErr, if◌then◌else◌, length, take};
-ghost use Rattle.kt_base.specs.Sets.{has};
+ghost use Rattle.std.specs.Prelude.{◌≡◌, ◌≤◌, ◌<◌, ◌^◌, ◌+◌, ◌++◌, ◌∷◌, [], ℕ, List, Some, Err, IfOk, OnOk, OnErr, length, take};
 ghost use Rattle.kt_spacetime.specs.declared.event.Event.{Event};
 ghost use Rattle.kt_spacetime.specs.declared.rules.Rule.{Rule};
+ghost use Rattle.kt_base.specs.Sets.{has};
 ghost use Rattle.kt_rules.specs.declared.legality.LegalFault.TheVariants as fault;
 ghost use Rattle.kt_meaning.specs.Legal.{first_broken};
 ghost use Rattle.kt_walk.specs.WalkOf.{WalkOf};
@@ -12,7 +12,6 @@ ghost use Rattle.kt_picture.specs.DiagramOf.{DiagramOf, HasRowsFor, SheetOf};
 ghost use Rattle.kt_picture.specs.Breach.{breach_rows};
 ghost use Rattle.kt_picture.specs.Lanes.{is_named};
 ghost use Rattle.kt_picture.specs.Picture.{picture_of};
-ghost use Rattle.kt_picture.specs.KnownAtRow.{cut_in};
 
 use crate::breach::Breach;
 use crate::entry::{Entry, follow, message_of, taken_by};
@@ -21,10 +20,10 @@ use crate::items::push_item;
 use crate::known::Known;
 use crate::lanes::{Lanes, with_named};
 use crate::layers::text_of;
-use crate::links::Links;
+use crate::links::links_of;
 use crate::page::Page;
-use crate::shown::CutMark;
-use crate::window::{Window, lane_ends, push_cut, shown_rows};
+use crate::shown::{CutMark, Shown, Stretch};
+use crate::window::{lane_ends, push_cut, shown_rows};
 use kt_base::{Memory, MsgNo, ProcSet};
 use kt_plan::Names;
 use kt_rules::LegalFault;
@@ -65,9 +64,7 @@ impl Diagram {
         ensures unchanged { OnErr result (self.new ≡ self.old) }
         ensures still { OnErr result (walk.new ≡ walk.old) }
     {
-        if let Err(fault) = walk.feed(row) {
-            return Err(fault);
-        }
+        walk.feed(row)?;
         self.named = with_named(self.named, row);
         Ok(())
     }
@@ -84,28 +81,17 @@ impl Diagram {
         ensures still { (number : ℕ) (rule : Rule) → result ≡ Err (fault.Broken number rule) → walk.new ≡ walk.old }
     {
         let msg = MsgNo::after(walk.rows());
-        let before = self.known.places;
         let plain = self.known.plain(walk, row);
+        let after = self.known.after(walk, row);
         let taken = taken_by(walk, row);
-        if let Err(fault) = self.known.add(walk, row) {
-            return Err(fault);
-        }
+        walk.feed(row)?;
         follow(&mut self.entries, walk, row);
         let message = message_of(walk, row, msg, taken);
-        let named = with_named(self.named, row);
-        self.named = named;
-        let entry = Entry { plain, message };
-        match keep(
-            &mut self.entries,
-            &mut self.cuts,
-            &before,
-            &self.known.places,
-            &entry,
-            row,
-        ) {
-            Ok(()) => Ok(()),
-            Err(Memory) => Err(LegalFault::Memory),
-        }
+        self.named = with_named(self.named, row);
+        push_cut(&mut self.cuts, &self.known.places, &after.places, row)?;
+        self.known = after;
+        push_item(&mut self.entries, Entry { plain, message })?;
+        Ok(())
     }
 
     /// The window, with what became of its rows.
@@ -117,34 +103,17 @@ impl Diagram {
     {
         let shown = shown_rows(alloc, walk, self.entries.as_slice())?;
         let ends = lane_ends(alloc, walk, &self.known)?;
-        let mut cuts = Vec::new(alloc);
-        cuts.extend_from_slice(self.cuts.as_slice())?;
         let rows = walk.rows() as u32;
         let before = rows.saturating_sub(self.known.column);
         Ok(Sheet {
             named: self.named,
             before,
             columns: rows - before,
-            window: Window { shown, ends, cuts },
+            shown,
+            ends,
+            cuts: Vec::from_slice(alloc, self.cuts.as_slice())?,
         })
     }
-}
-
-// Keeps a row of the window, and the permanent cut after it, where permanent positions are in the first columns before it and
-// in the second ones after it.
-fn keep(
-    entries: &mut Vec<Entry>,
-    cuts: &mut Vec<CutMark>,
-    before: &[u32; 64],
-    places: &[u32; 64],
-    entry: &Entry,
-    row: &Event,
-) -> Result<(), Memory>
-    ensures entries { OnOk result (entries.new.items ≡ entries.old.items ++ entry.now ∷ []) }
-    ensures cuts { OnOk result (cuts.new.items ≡ cuts.old.items ++ cut_in before.now places.now row.now) }
-{
-    push_item(entries, *entry)?;
-    push_cut(cuts, before, places, row)
 }
 
 /// A window of a log, with what became of its rows: what a picture shows.
@@ -156,7 +125,10 @@ pub struct Sheet {
     pub(crate) before: u32,
     /// How many rows the window has.
     pub(crate) columns: u32,
-    pub(crate) window: Window,
+    pub(crate) shown: Vec<Shown>,
+    /// By process, how its lane goes on to the right end.
+    pub(crate) ends: Vec<Stretch>,
+    pub(crate) cuts: Vec<CutMark>,
 }
 
 impl Sheet {
@@ -175,13 +147,13 @@ impl Sheet {
     ///
     /// A message that certificates have in a chain is drawn in the colour of the instance, and the row in which a member
     /// joins tells in its tooltip which messages bound it; the orphan that is named stands out.
-    pub fn picture(
-        &self,
+    pub fn picture<'a>(
+        &'a self,
         alloc: Global,
-        rows: &[Event],
+        rows: &'a [Event],
         breach: Option<Breach>,
-        evidence: &Evidence<'_>,
-        names: &Names,
+        evidence: &Evidence<'a>,
+        names: &'a Names,
         caption: &[u8],
     ) -> Result<Vec<u8>, Memory>
         requires few { self.now.before + self.now.columns ≤ 2 ^ 24 }
@@ -192,21 +164,18 @@ impl Sheet {
     {
         let lanes = Lanes::of_named(alloc, with_breach(self.named, breach))?;
         let rows = front_of(rows, (self.before + self.columns) as usize);
-        let links = Links::of(alloc, evidence.certificates, rows.len())?;
+        let links = links_of(alloc, evidence.certificates, rows.len())?;
         let page = Page {
             alloc,
             names,
             lanes: &lanes,
-            before: self.before,
-            columns: columns_of(self.columns, breach.is_some()),
-            shown: self.window.shown.as_slice(),
-            cuts: self.window.cuts.as_slice(),
-            ends: self.window.ends.as_slice(),
+            sheet: self,
+            columns: self.columns + u32::from(breach.is_some()),
             breach,
             certificates: evidence.certificates,
             orphan: evidence.orphan,
             rows,
-            links: &links,
+            links: links.as_slice(),
         };
         text_of(alloc, &page, caption)
     }
@@ -232,12 +201,4 @@ fn with_breach(named: ProcSet, breach: Option<Breach>) -> ProcSet
         Some(breach) => with_named(named, &breach.event),
         None => named,
     }
-}
-
-// How many columns a picture of so many rows has.
-fn columns_of(rows: u32, is_broken: bool) -> u32
-    requires { rows ≤ 2 ^ 24 }
-    ensures { result ≡ rows + (if is_broken then 1 else 0) }
-{
-    if is_broken { rows + 1 } else { rows }
 }

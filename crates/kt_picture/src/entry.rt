@@ -1,16 +1,15 @@
 //! A row of the window while the window goes on, with its message, which is followed row by row.
 
-ghost use Rattle.std.specs.Prelude.{◌≡◌, ◌≤◌, ◌<◌, ◌+◌, ◌^◌, ◌++◌, ◌∷◌, [], None, Some, ℕ, Option, List, if◌then◌else◌, length, map};
+ghost use Rattle.std.specs.Prelude.{◌≡◌, ◌≤◌, ◌<◌, ◌+◌, ◌^◌, ◌++◌, ◌∷◌, [], None, ℕ, Option, List, length, map};
 ghost use Rattle.kt_spacetime.specs.declared.event.Event.{Event};
 ghost use Rattle.kt_meaning.specs.Past.{past};
-ghost use Rattle.kt_meaning.specs.Legal.{IsLegal, broken_rule};
+ghost use Rattle.kt_meaning.specs.Legal.{broken_rule};
 ghost use Rattle.kt_walk.specs.WalkOf.{WalkOf};
-ghost use Rattle.kt_picture.specs.Fates.{receives};
-ghost use Rattle.kt_picture.specs.Followed.{AreFollowed, IsFollowed, IsFollowedAs, if_within, message_in, message_kept, message_taken, trace_after, plain_of};
+ghost use Rattle.kt_picture.specs.Followed.{AreFollowed, IsFollowedAs, if_within, message_in, message_kept, message_taken, trace_after, plain_of};
 
 use crate::fates::receives;
 use crate::shown::Shown;
-use kt_base::{MsgNo, ProcNo};
+use kt_base::MsgNo;
 use kt_rules::Trace;
 use kt_spacetime::Event;
 use kt_walk::Walk;
@@ -61,25 +60,17 @@ pub(crate) fn message_of(
         → IsFollowedAs (rows ++ row.now ∷ []) (message_in number row.now) result }
 {
     match *row {
-        Event::Sent { p, to, .. } => Some(sent_by(walk, p, to, number)),
+        Event::Sent { p: from, to, .. } => {
+            let trace = Trace {
+                from,
+                to,
+                sent: Some(walk.length(from)),
+                received: None,
+            };
+            Some(Message { msg: number, trace })
+        }
         _ => followed(walk, row, taken),
     }
-}
-
-// The message of this number that the last row sends from one process to another.
-fn sent_by(walk: &Walk, p: ProcNo, to: ProcNo, msg: MsgNo) -> Message
-    ensures number { result.msg ≡ msg }
-    ensures trace { (rows : List Event) → WalkOf walk.now rows → result.trace
-        ≡ record { from = p; to = to; sent = Some (length ((past rows).live p)); received = None } }
-{
-    let length = walk.length(p);
-    let trace = Trace {
-        from: p,
-        to,
-        sent: Some(length),
-        received: None,
-    };
-    Message { msg, trace }
 }
 
 /// Follows the messages of entries over the last row.
@@ -88,20 +79,8 @@ pub(crate) fn follow(entries: &mut [Entry], walk: &Walk, row: &Event)
     ensures followed { (rows : List Event) → WalkOf walk.now (rows ++ row.now ∷ []) → AreFollowed rows entries.old
         → AreFollowed (rows ++ row.now ∷ []) entries.new }
 {
-    for index in 0..entries.len() {
-        let entry = &mut entries[index];
-        entry.follow(walk, row);
-    }
-}
-
-impl Entry {
-    // Follows the message over the last row.
-    fn follow(&mut self, walk: &Walk, row: &Event)
-        ensures plain { self.new.plain ≡ self.old.plain }
-        ensures followed { (rows : List Event) → WalkOf walk.now (rows ++ row.now ∷ []) → IsFollowed rows self.old
-            → IsFollowed (rows ++ row.now ∷ []) self.new }
-    {
-        self.message = followed(walk, row, self.message);
+    for entry in entries.iter_mut() {
+        entry.message = followed(walk, row, entry.message);
     }
 }
 
@@ -124,28 +103,16 @@ fn followed(walk: &Walk, row: &Event, message: Option<Message>) -> Option<Messag
 fn trace_after(walk: &Walk, row: &Event, msg: MsgNo, trace: Trace) -> Trace
     ensures { (rows : List Event) → WalkOf walk.now rows → result ≡ trace_after (past rows) row.now msg trace }
 {
-    let from = trace.from;
-    let to = trace.to;
-    let sender_length = walk.length(from);
-    let receiver_length = walk.length(to);
-    let sent = if_within(trace.sent, sender_length);
-    let received = received_after(*row, msg, trace.received, receiver_length);
-    Trace {
-        from,
-        to,
-        sent,
-        received,
-    }
-}
-
-// The place of a message's receive after a row, where its receiver's history has this length.
-fn received_after(row: Event, msg: MsgNo, received: Option<usize>, length: usize) -> Option<usize>
-    ensures { result ≡ (if receives msg row then Some length else if_within received length) }
-{
-    if receives(row, msg) {
+    let length = walk.length(trace.to);
+    let received = if receives(*row, msg) {
         Some(length)
     } else {
-        if_within(received, length)
+        if_within(trace.received, length)
+    };
+    Trace {
+        sent: if_within(trace.sent, walk.length(trace.from)),
+        received,
+        ..trace
     }
 }
 

@@ -1,6 +1,6 @@
 //! Texts of others in a picture.
 
-ghost use Rattle.std.specs.Prelude.{◌≡◌, ◌<◌, ◌++◌, ℕ, List, true, OnOk, length, slice_index};
+ghost use Rattle.std.specs.Prelude.{◌≡◌, ◌++◌, ℕ, List, true, OnOk};
 ghost use Rattle.std.specs.List.{list_all};
 ghost use Rattle.kt_picture.specs.Escaping.{escaped_byte, escaped, is_no_mark};
 
@@ -10,18 +10,10 @@ use kt_base::Memory;
 pub(crate) fn push_escaped(text: &mut Vec<u8>, other: &[u8]) -> Result<(), Memory>
     ensures { OnOk result (text.new.items ≡ text.old.items ++ escaped other.now) }
 {
-    for place in 0..other.len() {
-        push_byte_at(text, other, place)?;
+    for byte in other {
+        push_byte(text, *byte)?;
     }
     Ok(())
-}
-
-// Gathers the byte at a place of such a text.
-fn push_byte_at(text: &mut Vec<u8>, other: &[u8], place: usize) -> Result<(), Memory>
-    requires { place < length other.now }
-    ensures { OnOk result (text.new.items ≡ text.old.items ++ escaped_byte (slice_index other.now place)) }
-{
-    push_byte(text, other[place])
 }
 
 // Gathers a byte of such a text.

@@ -1,10 +1,9 @@
 //! What certificates add to a picture: whose chain has a message, and why a member took part.
 
 ghost use Rattle.std.specs.Prelude.{◌≡◌, ◌++◌, ◌==◌, OnOk, Some, find, string_bytes};
-ghost use Rattle.std.specs.List.{flat_map};
 ghost use Rattle.std.specs.Option.{option_copied};
-ghost use Rattle.kt_picture.specs.Evidence.{because, chain_for, chain_of, chain_of_member, chain_word, ends_between, ends_of_message};
 ghost use Rattle.kt_meaning.specs.Messages.{row_at};
+ghost use Rattle.kt_picture.specs.Evidence.{chain_for, chain_of, chain_of_member, chain_word, ends_of_message};
 ghost use Rattle.kt_picture.specs.Pages.{reason_in};
 
 use crate::page::Page;
@@ -28,26 +27,9 @@ pub(crate) fn push_reason(text: &mut String, page: &Page<'_>, row: Event) -> Res
 {
     let chain = chain_of(page.certificates, row);
     if chain.is_empty() {
-        Ok(())
-    } else {
-        push_because(text, page, chain)
+        return Ok(());
     }
-}
-
-// Gathers by which messages a member took part.
-fn push_because(text: &mut String, page: &Page<'_>, chain: &[MsgNo]) -> Result<(), Memory>
-    ensures { OnOk result (string_bytes text.new ≡ string_bytes text.old
-        ++ because page.now.names.now page.now.rows.now chain.now) }
-{
     write!(text, "; took part because of")?;
-    push_links(text, page, chain)
-}
-
-// Gathers the messages of a chain.
-fn push_links(text: &mut String, page: &Page<'_>, chain: &[MsgNo]) -> Result<(), Memory>
-    ensures { OnOk result (string_bytes text.new ≡ string_bytes text.old
-        ++ flat_map (chain_word page.now.names.now page.now.rows.now) chain.now) }
-{
     for msg in chain {
         push_link(text, page, *msg)?;
     }
@@ -59,8 +41,7 @@ fn chain_of(certificates: &[Certificate], row: Event) -> &[MsgNo]
     ensures { result.now ≡ chain_of certificates.now row }
 {
     match row {
-        Event::Took { p, inst } => chain_for(certificates, inst, p),
-        Event::Ready { p, inst } => chain_for(certificates, inst, p),
+        Event::Took { p, inst } | Event::Ready { p, inst } => chain_for(certificates, inst, p),
         _ => &[],
     }
 }
@@ -79,24 +60,17 @@ fn chain_for(certificates: &[Certificate], inst: InstNo, p: ProcNo) -> &[MsgNo]
 fn certificate_of(certificates: &[Certificate], inst: InstNo) -> Option<&Certificate>
     ensures { option_copied result ≡ find (λ c. c.inst == inst) certificates.now }
 {
-    for certificate in certificates {
-        if certificate.inst == inst {
-            return Some(certificate);
-        }
-    }
-    None
+    certificates.iter().find(|c| c.inst == inst)
 }
 
 // The chain of the first one of these members that is this process.
 fn chain_listed(members: &[(ProcNo, Chain)], p: ProcNo) -> &[MsgNo]
     ensures { result.now ≡ chain_of_member (find (λ m. m.0 == p) members.now) }
 {
-    for member in members {
-        if member.0 == p {
-            return member.1.messages();
-        }
+    match members.iter().find(|m| m.0 == p) {
+        Some(member) => member.1.messages(),
+        None => &[],
     }
-    &[]
 }
 
 // Gathers a message of a chain: its number, and between whom it went.
@@ -104,9 +78,11 @@ fn push_link(text: &mut String, page: &Page<'_>, msg: MsgNo) -> Result<(), Memor
     ensures { OnOk result (string_bytes text.new ≡ string_bytes text.old
         ++ chain_word page.now.names.now page.now.rows.now msg) }
 {
-    let row = row_of(page.rows, msg);
     write!(text, " {msg}")?;
-    push_ends(text, page, row)
+    match row_of(page.rows, msg) {
+        Some(row) => push_ends(text, page, row),
+        None => Ok(()),
+    }
 }
 
 // The row of the number of a message.
@@ -117,33 +93,16 @@ fn row_of(rows: &[Event], msg: MsgNo) -> Option<Event>
 }
 
 // Gathers between whom a message went that this row sent, if it sends one.
-fn push_ends(text: &mut String, page: &Page<'_>, row: Option<Event>) -> Result<(), Memory>
-    ensures { OnOk result (string_bytes text.new ≡ string_bytes text.old
-        ++ ends_of_message page.now.names.now row) }
-{
-    match row {
-        Some(row) => push_ends_of(text, page, row),
-        None => Ok(()),
-    }
-}
-
-// The same of this row.
-fn push_ends_of(text: &mut String, page: &Page<'_>, row: Event) -> Result<(), Memory>
+fn push_ends(text: &mut String, page: &Page<'_>, row: Event) -> Result<(), Memory>
     ensures { OnOk result (string_bytes text.new ≡ string_bytes text.old
         ++ ends_of_message page.now.names.now (Some row)) }
 {
     match row {
-        Event::Sent { p, to, .. } => push_between(text, page, p, to),
+        Event::Sent { p, to, .. } => {
+            let from = page.name(p);
+            let to = page.name(to);
+            Ok(write!(text, ":{from}&gt;{to}")?)
+        }
         _ => Ok(()),
     }
-}
-
-// Gathers between whom a message went.
-fn push_between(text: &mut String, page: &Page<'_>, p: ProcNo, to: ProcNo) -> Result<(), Memory>
-    ensures { OnOk result (string_bytes text.new ≡ string_bytes text.old ++ ends_between page.now.names.now p to) }
-{
-    let from = page.name(p);
-    write!(text, ":{from}")?;
-    let to = page.name(to);
-    Ok(write!(text, "&gt;{to}")?)
 }

@@ -1,17 +1,16 @@
 //! What became of messages and instances by the end of the window.
 
-ghost use Rattle.std.specs.Prelude.{◌≡◌, ℕ, Some, List, map, option_map};
+ghost use Rattle.std.specs.Prelude.{◌≡◌, ℕ, List, map, option_map};
 ghost use Rattle.std.specs.List.{list_any};
 ghost use Rattle.kt_spacetime.specs.declared.event.Event.{Event};
-ghost use Rattle.kt_meaning.specs.Legal.{is_undelivered};
-ghost use Rattle.kt_meaning.specs.Past.{past};
 ghost use Rattle.kt_walk.specs.WalkOf.{WalkOf};
 ghost use Rattle.kt_picture.specs.Fates.{has_no_receive, receives, is_message_undone, is_receive_undone, is_sent_in_transit, joined_decision};
-ghost use Rattle.kt_picture.specs.Followed.{IsFollowed, IsFollowedAs, event_of, message_in, told_at};
+ghost use Rattle.kt_picture.specs.Followed.{IsFollowed, IsFollowedAs, event_of, message_in};
+ghost use Rattle.kt_picture.specs.KnownAtRow.{told_at};
 
 use crate::entry::{Entry, Message};
 use crate::shown::Shown;
-use kt_base::{MsgNo, ProcNo};
+use kt_base::MsgNo;
 use kt_spacetime::Event;
 use kt_walk::Walk;
 
@@ -22,21 +21,12 @@ pub(crate) fn told(walk: &Walk, entry: &Entry, rest: &[Entry]) -> Shown
 {
     let plain = entry.plain;
     let row = &entry.plain.event;
-    let is_undone = is_message_undone(entry.message);
-    let is_taken_back = is_receive_undone(row, entry.message, rest);
-    let in_transit = is_in_transit(walk, row, entry.message);
-    let decision = joined_decision(walk, row);
     Shown {
-        row: plain.row,
-        column: plain.column,
-        event: *row,
-        since: plain.since,
-        up: plain.up,
-        open_in: plain.open_in,
-        is_undone,
-        is_taken_back,
-        is_in_transit: in_transit,
-        decision,
+        is_undone: is_message_undone(entry.message),
+        is_taken_back: is_receive_undone(row, entry.message, rest),
+        is_in_transit: is_in_transit(walk, row, entry.message),
+        decision: joined_decision(walk, row),
+        ..plain
     }
 }
 
@@ -76,12 +66,7 @@ fn has_no_receive(message: Option<Message>) -> bool
 fn is_received_in(rest: &[Entry], msg: MsgNo) -> bool
     ensures { result ≡ list_any (receives msg) (map event_of rest.now) }
 {
-    for entry in rest {
-        if receives(entry.plain.event, msg) {
-            return true;
-        }
-    }
-    false
+    rest.iter().any(|entry| receives(entry.plain.event, msg))
 }
 
 /// Whether a row receives this message.
@@ -99,23 +84,11 @@ fn is_in_transit(walk: &Walk, row: &Event, message: Option<Message>) -> bool
     ensures { (upto : List Event) (n : ℕ) → WalkOf walk.now upto → IsFollowedAs upto (message_in n row.now) message
         → result ≡ is_sent_in_transit upto n row.now }
 {
-    match *row {
-        Event::Sent { p, to, .. } => is_on_its_way(walk, p, to, message),
-        _ => false,
-    }
-}
-
-// Whether a message from one process to another is in transit.
-fn is_on_its_way(walk: &Walk, p: ProcNo, to: ProcNo, message: Option<Message>) -> bool
-    ensures { (upto : List Event) (n : ℕ) → WalkOf walk.now upto → IsFollowedAs upto (Some n) message
-        → result ≡ is_undelivered (past upto) to p n }
-{
+    let Event::Sent { p: from, to: p, .. } = *row else {
+        return false;
+    };
     match message {
-        Some(message) => walk.takes_in_transit(&Event::Received {
-            p: to,
-            from: p,
-            msg: message.msg,
-        }),
+        Some(Message { msg, .. }) => walk.takes_in_transit(&Event::Received { p, from, msg }),
         None => false,
     }
 }
@@ -125,8 +98,7 @@ fn joined_decision(walk: &Walk, row: &Event) -> Option<bool>
     ensures { (upto : List Event) → WalkOf walk.now upto → result ≡ joined_decision upto row.now }
 {
     match *row {
-        Event::Took { inst, .. } => walk.decision(inst),
-        Event::Ready { inst, .. } => walk.decision(inst),
+        Event::Took { inst, .. } | Event::Ready { inst, .. } => walk.decision(inst),
         _ => None,
     }
 }

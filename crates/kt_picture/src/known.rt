@@ -1,21 +1,16 @@
 //! What is known at each row of the window.
 
-ghost use Rattle.std.specs.Prelude.{◌≡◌, ◌≤◌, ◌<◌, ◌^◌, ◌+◌, ◌++◌, ◌∷◌, [], ℕ, List, Some, Err, OnOk, OnErr, map, replicate, slice_index, slice_set};
+ghost use Rattle.std.specs.Prelude.{◌≡◌, ◌<◌, ◌^◌, ◌+◌, ℕ, List, map, replicate, slice_set};
 ghost use Rattle.std.specs.List.{range_with_len};
 ghost use Rattle.kt_spacetime.specs.declared.event.Event.{Event};
-ghost use Rattle.kt_spacetime.specs.declared.rules.Rule.{Rule};
-ghost use Rattle.kt_rules.specs.declared.legality.LegalFault.TheVariants as fault;
+ghost use Rattle.kt_spacetime.specs.Events.{process_of};
 ghost use Rattle.kt_meaning.specs.Past.{past};
-ghost use Rattle.kt_meaning.specs.Legal.{first_broken};
 ghost use Rattle.kt_walk.specs.WalkOf.{WalkOf};
-ghost use Rattle.kt_picture.specs.Followed.{plain_at};
-ghost use Rattle.kt_picture.specs.KnownAtRow.{KnownAtRow, seen_after, taken_after, places_after, place_after};
-ghost use Rattle.kt_picture.specs.Window.{end_of};
+ghost use Rattle.kt_picture.specs.KnownAtRow.{KnownAtRow, plain_at, taken_after, places_after, place_after, stretch_from};
 ghost use Rattle.kt_picture.specs.KnownOf.{KnownOf};
 
-use crate::shown::{End, Shown, number_of};
+use crate::shown::{Shown, Stretch};
 use kt_base::{InstNo, ProcNo};
-use kt_rules::LegalFault;
 use kt_spacetime::Event;
 use kt_walk::Walk;
 
@@ -51,18 +46,11 @@ impl Known {
         requires column { self.now.column < 2 ^ 24 }
         ensures { (s : KnownAtRow) (rows : List Event) → KnownOf self.now walk.now s rows → result ≡ plain_at s row.now }
     {
-        let p = row.process();
-        let since = self.latest_of(p);
-        let up = walk.is_up(p);
-        let inst = walk.open_in(p);
-        let open_in = number_of(inst);
         Shown {
             row: walk.rows() as u32 + 1,
             column: self.column + 1,
             event: *row,
-            since,
-            up,
-            open_in,
+            stretch: self.stretch(walk, row.process()),
             is_undone: false,
             is_taken_back: false,
             is_in_transit: false,
@@ -70,72 +58,53 @@ impl Known {
         }
     }
 
-    /// How a process's lane goes on to the right end.
-    pub(crate) fn end(&self, walk: &Walk, p: ProcNo) -> End
-        ensures { (s : KnownAtRow) (rows : List Event) → KnownOf self.now walk.now s rows → result ≡ end_of s p }
+    /// The stretch of a process's lane from its last row on.
+    pub(crate) fn stretch(&self, walk: &Walk, p: ProcNo) -> Stretch
+        ensures { (s : KnownAtRow) (rows : List Event) → KnownOf self.now walk.now s rows → result ≡ stretch_from s p }
     {
-        let since = self.latest_of(p);
-        let up = walk.is_up(p);
-        let inst = walk.open_in(p);
-        let open_in = number_of(inst);
-        End {
-            process: p,
-            since,
-            up,
-            open_in,
+        Stretch {
+            since: self.latest[p.index()],
+            up: walk.is_up(p),
+            open_in: walk.open_in(p),
         }
     }
 
-    // The column of a process's last row.
-    fn latest_of(&self, p: ProcNo) -> u32
-        ensures { result ≡ slice_index self.now.latest p }
+    /// What is known after one more row, which the walk has not taken yet.
+    pub(crate) fn after(&self, walk: &Walk, row: &Event) -> Known
+        requires { self.now.column < 2 ^ 24 }
+        ensures column { result.column ≡ self.now.column + 1 }
+        ensures latest { result.latest ≡ slice_set self.now.latest (process_of row.now) (self.now.column + 1) }
+        ensures taken { result.taken ≡ taken_after self.now.column self.now.taken row.now }
+        ensures places { (rows : List Event) → WalkOf walk.now rows
+            → result.places ≡ places_after (past rows) self.now.taken self.now.places row.now }
     {
-        self.latest[p.get() as usize]
-    }
-
-    /// One more row, which the walk takes; unchanged where it does not.
-    pub(crate) fn add(&mut self, walk: &mut Walk, row: &Event) -> Result<(), LegalFault>
-        requires few { walk.old.rows < 2 ^ 24 }
-        requires column { self.old.column < 2 ^ 24 }
-        ensures fed { OnOk result ((s : KnownAtRow) (rows : List Event) → KnownOf self.old walk.old s rows
-            → KnownOf self.new walk.new (seen_after s row.now) (rows ++ row.now ∷ [])) }
-        ensures broken { (number : ℕ) (rule : Rule) → result ≡ Err (fault.Broken number rule) → (rows : List Event)
-            → WalkOf walk.old rows → first_broken (rows ++ row.now ∷ []) ≡ Some (number, rule) }
-        ensures unchanged { OnErr result (self.new ≡ self.old) }
-        ensures still { OnErr result (walk.new ≡ walk.old) }
-    {
-        let places = places_after(walk, row, &self.taken, &self.places);
-        let taken = taken_after(self.column, row, &self.taken);
-        if let Err(fault) = walk.feed(row) {
-            return Err(fault);
+        let column = self.column + 1;
+        Known {
+            column,
+            latest: with_column(&self.latest, row.process(), column),
+            taken: match *row {
+                Event::Took { p, .. } => with_column(&self.taken, p, column),
+                _ => self.taken,
+            },
+            places: match *row {
+                Event::Decided { inst, commit, .. } if commit => self.promoted(walk, inst),
+                _ => self.places,
+            },
         }
-        self.places = places;
-        self.taken = taken;
-        self.count(row.process());
-        Ok(())
     }
 
-    // One more row of this process.
-    fn count(&mut self, p: ProcNo)
-        requires { self.old.column < 2 ^ 24 }
-        ensures { self.new ≡ record self.old {
-          column = self.old.column + 1;
-          latest = slice_set self.old.latest p (self.old.column + 1);
-        } }
+    // The columns of permanent positions after the commit of an instance: those of its `took` rows, where there are some.
+    fn promoted(&self, walk: &Walk, inst: InstNo) -> [u32; 64]
+        ensures { (rows : List Event) → WalkOf walk.now rows
+            → result ≡ map (place_after (past rows) inst self.now.taken self.now.places) (range_with_len 0 64) }
     {
-        self.column += 1;
-        self.latest[p.get() as usize] = self.column;
-    }
-}
-
-// The columns of `took` rows after a row, which follows this column.
-fn taken_after(column: u32, row: &Event, taken: &[u32; 64]) -> [u32; 64]
-    requires { column < 2 ^ 24 }
-    ensures { result ≡ taken_after column taken.now row.now }
-{
-    match *row {
-        Event::Took { p, .. } => with_column(taken, p, column + 1),
-        _ => *taken,
+        let mut after = self.places;
+        for number in 0..ProcNo::COUNT {
+            if walk.position(inst, ProcNo::nth(number)).is_some() {
+                after[number as usize] = self.taken[number as usize];
+            }
+        }
+        after
     }
 }
 
@@ -144,36 +113,6 @@ fn with_column(columns: &[u32; 64], p: ProcNo, column: u32) -> [u32; 64]
     ensures { result ≡ slice_set columns.now p column }
 {
     let mut after = *columns;
-    after[p.get() as usize] = column;
-    after
-}
-
-// The columns of permanent positions after a row.
-fn places_after(walk: &Walk, row: &Event, taken: &[u32; 64], places: &[u32; 64]) -> [u32; 64]
-    ensures { (rows : List Event) → WalkOf walk.now rows
-        → result ≡ places_after (past rows) taken.now places.now row.now }
-{
-    match *row {
-        Event::Decided {
-            inst,
-            commit: true,
-            ..
-        } => promoted(walk, inst, taken, places),
-        Event::Decided { commit: false, .. } => *places,
-        _ => *places,
-    }
-}
-
-// The columns of permanent positions after the commit of an instance: those of its `took` rows, where there are some.
-fn promoted(walk: &Walk, inst: InstNo, taken: &[u32; 64], places: &[u32; 64]) -> [u32; 64]
-    ensures { (rows : List Event) → WalkOf walk.now rows
-        → result ≡ map (place_after (past rows) inst taken.now places.now) (range_with_len 0 64) }
-{
-    let mut after = *places;
-    for number in 0..ProcNo::COUNT {
-        if walk.position(inst, ProcNo::nth(number)).is_some() {
-            after[number as usize] = taken[number as usize];
-        }
-    }
+    after[p.index()] = column;
     after
 }

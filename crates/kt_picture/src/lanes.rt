@@ -1,6 +1,6 @@
 //! The lanes of a picture.
 
-ghost use Rattle.std.specs.Prelude.{◌≡◌, ◌≤◌, ◌==◌, ◌||◌, ◌++◌, ◌∷◌, [], ℕ, IfOk, OnOk, if◌then◌else◌, filter, length};
+ghost use Rattle.std.specs.Prelude.{◌≡◌, ◌≤◌, ◌||◌, ℕ, IfOk, filter, length};
 ghost use Rattle.std.specs.List.{range_with_len};
 ghost use Rattle.kt_base.specs.Sets.{has};
 ghost use Rattle.kt_picture.specs.Lanes.{names_process, lane_of};
@@ -33,7 +33,12 @@ impl Lanes {
         ensures { IfOk result (λ l. l ≡ filter (has named) (range_with_len 0 64)) }
     {
         let mut processes = Vec::new(alloc);
-        add_named(&mut processes, named)?;
+        for number in 0..ProcNo::COUNT {
+            let p = ProcNo::nth(number);
+            if named.has(p) {
+                push_item(&mut processes, p)?;
+            }
+        }
         Ok(Lanes { processes })
     }
 
@@ -61,45 +66,14 @@ impl Lanes {
     }
 }
 
-// Adds the processes that are named, by rising number.
-fn add_named(processes: &mut Vec<ProcNo>, named: ProcSet) -> Result<(), Memory>
-    requires { processes.old.items ≡ [] }
-    ensures named { OnOk result (processes.new.items ≡ filter (has named) (range_with_len 0 64)) }
-    ensures few { OnOk result (length processes.new.items ≤ 64) }
-{
-    for number in 0..ProcNo::COUNT {
-        let p = ProcNo::nth(number);
-        add_if(processes, p, named.has(p))?;
-    }
-    Ok(())
-}
-
-// Adds a process that is named.
-fn add_if(processes: &mut Vec<ProcNo>, p: ProcNo, named: bool) -> Result<(), Memory>
-    ensures { OnOk result (processes.new.items ≡ processes.old.items ++ (if named then p ∷ [] else [])) }
-{
-    if named {
-        push_item(processes, p)
-    } else {
-        Ok(())
-    }
-}
-
 /// The processes that rows name, with those that one more row names.
 pub(crate) fn with_named(named: ProcSet, row: &Event) -> ProcSet
     ensures { (q : ℕ) → has result q ≡ (has named q || names_process q row.now) }
 {
     match *row {
-        Event::Sent { p, to, .. } => with_both(named, p, to),
-        Event::Received { p, from, .. } => with_both(named, p, from),
-        Event::Dropped { p, from, .. } => with_both(named, p, from),
+        Event::Sent { p, to: peer, .. }
+        | Event::Received { p, from: peer, .. }
+        | Event::Dropped { p, from: peer, .. } => named.with(p).with(peer),
         _ => named.with(row.process()),
     }
-}
-
-// These processes with two more.
-fn with_both(named: ProcSet, p: ProcNo, peer: ProcNo) -> ProcSet
-    ensures { (q : ℕ) → has result q ≡ (has named q || (p == q || peer == q)) }
-{
-    named.with(p).with(peer)
 }

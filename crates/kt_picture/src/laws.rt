@@ -37,9 +37,9 @@ pub fn each_row_is_shown()
 
     // Dashed while the process is down, over the bar of the instance that it is in.
     ensures up { (rows : List Event) (before : ℕ) (s : Shown) → Contains (shown_of rows before) s →
-        s.up ≡ (past (take (s.row - 1) rows)).up (process_of s.event) }
+        s.stretch.up ≡ (past (take (s.row - 1) rows)).up (process_of s.event) }
     ensures bar { (rows : List Event) (before : ℕ) (s : Shown) → Contains (shown_of rows before) s →
-        s.open_in ≡ (past (take (s.row - 1) rows)).open_in (process_of s.event) }
+        s.stretch.open_in ≡ (past (take (s.row - 1) rows)).open_in (process_of s.event) }
 {}
 
 /// The send of a message counts as undone exactly where it is not in its sender's live history: a law.

@@ -1,15 +1,16 @@
 //! The layers of a picture: lanes, cuts, arrows, what shows each row at its place, and words.
 
-ghost use Rattle.std.specs.Prelude.{◌≡◌, ◌<◌, ◌^◌, ◌+◌, ◌*◌, ◌++◌, IfOk, OnOk, string_bytes};
+ghost use Rattle.std.specs.Prelude.{◌≡◌, ◌≤◌, ◌<◌, ◌^◌, ◌+◌, ◌++◌, IfOk, OnOk, length, string_bytes};
 ghost use Rattle.std.specs.List.{flat_map};
-ghost use Rattle.kt_picture.specs.Layers.{arrow_text, breach_text, cut_line, cut_text, end_of, height_of, lane_mark, lanes_text, marks_text, opening, opening_text, picture_text, row_mark, rows_text, rule_of, titled_text, top_of, width_of, words_text, wrong_text};
+ghost use Rattle.kt_picture.specs.Layers.{arrow_text, breach_text, cut_text, end_of, lane_mark, lanes_text, marks_text, opening, picture_text, row_mark, rows_text, rule_of, titled_text, top_of, width_of, words_text};
+ghost use Rattle.kt_picture.specs.Legend.{signs_of};
 ghost use Rattle.kt_picture.specs.Pages.{view_in};
 
 use crate::escaping::push_escaped;
 use crate::evidence::push_reason;
-use crate::legend::{count_signs, push_legend};
-use crate::looks::{Path, Place, x_of, y_of};
-use crate::mark::{Mark, Stretch, push};
+use crate::legend::{Sign, push_legend, signs_of};
+use crate::looks::{Path, x_of, y_of};
+use crate::mark::{Mark, push};
 use crate::page::Page;
 use crate::rows::{arrow_at, figure_of, number_at, stretch_of, word_at};
 use crate::shown::{CutMark, Shown};
@@ -21,17 +22,38 @@ use std::fmt::Write;
 
 /// The picture of a page, with what is said below.
 pub(crate) fn text_of(alloc: Global, page: &Page<'_>, caption: &[u8]) -> Result<Vec<u8>, Memory>
-    requires { page.now.before + page.now.columns < 2 ^ 25 }
+    requires { page.now.sheet.now.before + page.now.columns < 2 ^ 25 }
     ensures { IfOk result (λ t. t.items ≡ picture_text (view_in page.now) caption.now) }
 {
+    let signs = signs_of(alloc, page)?;
     let mut text = String::new(alloc);
-    push_opening(&mut text, page, caption.len())?;
+    push_opening(&mut text, page, signs.len() as u64, caption.len())?;
     push_marks(&mut text, page)?;
-    push_words(&mut text, page)?;
+    push_words(&mut text, page, signs.as_slice())?;
     let mut text = text.into_bytes();
     push_escaped(&mut text, caption)?;
     text.extend_from_slice(b"</text>\n</g>\n</svg>\n")?;
     Ok(text)
+}
+
+// Gathers how a document begins, with so many lines of the legend and a line of text of this length: its size, its style, and
+// its background.
+fn push_opening(text: &mut String, page: &Page<'_>, signs: u64, line: usize) -> Result<(), Memory>
+    requires exact { signs ≡ length (signs_of (view_in page.now)) }
+    requires few { signs ≤ 13 }
+    ensures { OnOk result (string_bytes text.new ≡ string_bytes text.old ++ opening (view_in page.now) line) }
+{
+    let width = width_of(page.columns, line);
+    let height = top_of(page) + 18 * ((signs + 1) / 2);
+    writeln!(
+        text,
+        "<svg xmlns='http://www.w3.org/2000/svg' viewBox='0 0 {width} {height}' width='{width}'>"
+    )?;
+    writeln!(text, "{STYLE}{HEADS}")?;
+    Ok(writeln!(
+        text,
+        "<rect class='paper' width='{width}' height='{height}' fill='#fff'/>"
+    )?)
 }
 
 // How wide a picture is with so many columns, and a line of text of this length.
@@ -44,42 +66,9 @@ fn width_of(columns: u32, line: usize) -> u64
     wide.max(line.max(560))
 }
 
-// Gathers how a document begins: its size, its style, and its background.
-fn push_opening(text: &mut String, page: &Page<'_>, line: usize) -> Result<(), Memory>
-    requires { page.now.columns < 2 ^ 25 }
-    ensures { OnOk result (string_bytes text.new ≡ string_bytes text.old ++ opening (view_in page.now) line) }
-{
-    let width = width_of(page.columns, line);
-    let height = height_of(page);
-    push_frame(text, width, height)
-}
-
-// How high a picture is.
-fn height_of(page: &Page<'_>) -> u64
-    ensures { result ≡ height_of (view_in page.now) }
-{
-    top_of(page) + 18 * ((count_signs(page) + 1) / 2)
-}
-
-// Gathers how a document of this size begins.
-fn push_frame(text: &mut String, width: u64, height: u64) -> Result<(), Memory>
-    ensures { OnOk result (string_bytes text.new ≡ string_bytes text.old ++ opening_text width height) }
-{
-    writeln!(
-        text,
-        "<svg xmlns='http://www.w3.org/2000/svg' viewBox='0 0 {width} {height}' width='{width}'>"
-    )?;
-    writeln!(text, "{STYLE}{HEADS}")?;
-    writeln!(
-        text,
-        "<rect class='paper' width='{width}' height='{height}' fill='#fff'/>"
-    )?;
-    Ok(())
-}
-
 // Gathers the lanes and marks of a picture.
 fn push_marks(text: &mut String, page: &Page<'_>) -> Result<(), Memory>
-    requires { page.now.before + page.now.columns < 2 ^ 25 }
+    requires { page.now.sheet.now.before + page.now.columns < 2 ^ 25 }
     ensures { OnOk result (string_bytes text.new ≡ string_bytes text.old ++ marks_text (view_in page.now)) }
 {
     writeln!(text, "<g fill='none' stroke='#1d232b'>")?;
@@ -91,19 +80,20 @@ fn push_marks(text: &mut String, page: &Page<'_>) -> Result<(), Memory>
     push_breach(text, page)
 }
 
-// Gathers the words of a picture, up to what is said below.
-fn push_words(text: &mut String, page: &Page<'_>) -> Result<(), Memory>
-    requires { page.now.columns < 2 ^ 25 }
+// Gathers the words of a picture with these lines of the legend, up to what is said below.
+fn push_words(text: &mut String, page: &Page<'_>, signs: &[Sign]) -> Result<(), Memory>
+    requires columns { page.now.columns < 2 ^ 25 }
+    requires signs { signs.now ≡ signs_of (view_in page.now) }
+    requires few { length signs.now ≤ 13 }
     ensures { OnOk result (string_bytes text.new ≡ string_bytes text.old ++ words_text (view_in page.now)) }
 {
     writeln!(text, "</g>\n<g fill='#1d232b'>")?;
     push_lanes(text, page, &Thread::Names)?;
     push_rows(text, page, Layer::Words)?;
     push(text, rule_of(page))?;
-    push_legend(text, page, top_of(page))?;
+    push_legend(text, signs, top_of(page))?;
     let y = y_of(page.lanes.count());
-    write!(text, "<text x='12' y='{y}' dy='10'>")?;
-    Ok(())
+    Ok(write!(text, "<text x='12' y='{y}' dy='10'>")?)
 }
 
 // Where the legend begins, below the line of text.
@@ -127,8 +117,7 @@ pub(crate) enum Layer {
 fn push_rows(text: &mut String, page: &Page<'_>, layer: Layer) -> Result<(), Memory>
     ensures { OnOk result (string_bytes text.new ≡ string_bytes text.old ++ rows_text layer (view_in page.now)) }
 {
-    let shown = page.shown;
-    for row in shown {
+    for row in &page.sheet.shown {
         push_row(text, page, layer, row)?;
     }
     Ok(())
@@ -166,8 +155,7 @@ fn push_path(text: &mut String, page: &Page<'_>, s: &Shown, path: Path) -> Resul
     let fields = fields_of(page.alloc, s.event)?;
     write!(text, "<g><title>row {}: {fields}", s.row)?;
     push_reason(text, page, s.event)?;
-    writeln!(text, "</title>{path}</g>")?;
-    Ok(())
+    Ok(writeln!(text, "</title>{path}</g>")?)
 }
 
 // What follows lanes.
@@ -203,7 +191,7 @@ fn push_lane(text: &mut String, page: &Page<'_>, thread: &Thread, p: ProcNo) -> 
             // Cuts of instances that follow each other lie side by side.
             let aside = 3 * (u64::from(cut.inst.get()) % 4);
             let x = x_of(cut.columns[p.index()]) - aside;
-            push(text, Some(Mark::Crossing { x, lane }))
+            push(text, Some(Mark::Crossing(x, lane)))
         }
         Thread::Names => {
             let name = page.name(p);
@@ -221,30 +209,18 @@ fn end_of(page: &Page<'_>, p: ProcNo) -> Option<Mark>
     requires { page.now.columns < 2 ^ 25 }
     ensures { result ≡ end_of (view_in page.now) p }
 {
-    let end = page.ends.get(p.index()).copied()?;
-    let until = if page.breach.is_some() {
-        page.columns
-    } else {
-        page.columns + 1
-    };
-    Some(Mark::Stretch(Stretch {
-        from: Place {
-            column: end.since,
-            lane: page.lanes.of(p),
-        },
-        until,
-        up: end.up,
-        open_in: end.open_in,
-    }))
+    let end = page.sheet.ends.get(p.index())?;
+    let until = page.columns + u32::from(page.breach.is_none());
+    Some(Mark::Stretch(*end, page.lanes.of(p), until))
 }
 
 // Gathers the permanent cuts.
 fn push_cuts(text: &mut String, page: &Page<'_>) -> Result<(), Memory>
     requires { page.now.columns < 2 ^ 25 }
-    ensures { OnOk result (string_bytes text.new ≡ string_bytes text.old ++ flat_map (cut_text (view_in page.now)) page.now.cuts.now) }
+    ensures { OnOk result (string_bytes text.new ≡ string_bytes text.old
+        ++ flat_map (cut_text (view_in page.now)) page.now.sheet.now.cuts.items) }
 {
-    let cuts = page.cuts;
-    for cut in cuts {
+    for cut in &page.sheet.cuts {
         push_cut(text, page, cut)?;
     }
     Ok(())
@@ -255,51 +231,31 @@ fn push_cut(text: &mut String, page: &Page<'_>, cut: &CutMark) -> Result<(), Mem
     requires { page.now.columns < 2 ^ 25 }
     ensures { OnOk result (string_bytes text.new ≡ string_bytes text.old ++ cut_text (view_in page.now) cut.now) }
 {
-    if cut.is_new {
-        push_cut_line(text, page, cut)
-    } else {
-        Ok(())
+    if !cut.is_new {
+        return Ok(());
     }
-}
-
-// Gathers a permanent cut.
-fn push_cut_line(text: &mut String, page: &Page<'_>, cut: &CutMark) -> Result<(), Memory>
-    requires { page.now.columns < 2 ^ 25 }
-    ensures { OnOk result (string_bytes text.new ≡ string_bytes text.old ++ cut_line (view_in page.now) cut.now) }
-{
     let inst = cut.inst.get();
     write!(text, "<polyline class='cut c{}' points='", inst % 6)?;
     push_lanes(text, page, &Thread::Cut(*cut))?;
-    writeln!(
+    Ok(writeln!(
         text,
         "'><title>permanent cut after instance {inst}</title></polyline>"
-    )?;
-    Ok(())
+    )?)
 }
 
 // Gathers the row that breaks a rule, where there is one, as what it says in the colour of a warning.
 fn push_breach(text: &mut String, page: &Page<'_>) -> Result<(), Memory>
-    requires { page.now.before + page.now.columns < 2 ^ 25 }
+    requires { page.now.sheet.now.before + page.now.columns < 2 ^ 25 }
     ensures { OnOk result (string_bytes text.new ≡ string_bytes text.old ++ breach_text (view_in page.now)) }
 {
-    match page.breach {
-        Some(breach) => {
-            let s = breach.shown(page.before + page.columns, page.columns);
-            push_wrong(text, page, &s)
-        }
-        None => Ok(()),
-    }
-}
-
-// Gathers the arrow and the mark of a row in that colour.
-fn push_wrong(text: &mut String, page: &Page<'_>, s: &Shown) -> Result<(), Memory>
-    ensures { OnOk result (string_bytes text.new ≡ string_bytes text.old ++ wrong_text (view_in page.now) s.now) }
-{
+    let Some(breach) = page.breach else {
+        return Ok(());
+    };
+    let s = breach.shown(page.sheet.before + page.columns, page.columns);
     write!(text, "<g class='wrong'>")?;
-    push_arrow(text, page, s)?;
-    push_path(text, page, s, figure_of(page, s))?;
-    writeln!(text, "</g>")?;
-    Ok(())
+    push_arrow(text, page, &s)?;
+    push_path(text, page, &s, figure_of(page, &s))?;
+    Ok(writeln!(text, "</g>")?)
 }
 
 // Which rule it breaks, above the lanes.
@@ -307,10 +263,7 @@ fn rule_of(page: &Page<'_>) -> Option<Mark>
     ensures { result ≡ rule_of (view_in page.now) }
 {
     match page.breach {
-        Some(breach) => Some(Mark::Rule {
-            rule: breach.rule,
-            column: page.columns,
-        }),
+        Some(breach) => Some(Mark::Rule(breach.rule, page.columns)),
         None => None,
     }
 }

@@ -1,9 +1,9 @@
 //! The legend of a picture: of the marks that it has, and of no others.
 
-ghost use Rattle.std.specs.Prelude.{◌≡◌, ◌≤◌, ◌<◌, ◌^◌, ◌++◌, ◌+◌, OnOk, Some, None, length, string_bytes, if◌then◌else◌};
+ghost use Rattle.std.specs.Prelude.{◌≡◌, ◌≤◌, ◌<◌, ◌^◌, ◌++◌, IfOk, OnOk, Some, None, length, string_bytes};
 ghost use Rattle.std.specs.List.{list_any};
 ghost use Rattle.kt_picture.specs.Layers.{legend_text};
-ghost use Rattle.kt_picture.specs.Legend.{is_linked, row_shows, has_beside, has_sign, sign_at, signs_of};
+ghost use Rattle.kt_picture.specs.Legend.{is_linked, row_shows, has_sign, signs_of};
 ghost use Rattle.kt_picture.specs.Pages.{view_in};
 ghost use Rattle.kt_picture.specs.Signs.{sign_figure, sign_words};
 
@@ -13,6 +13,7 @@ use crate::page::Page;
 use crate::shown::{CutMark, Shown};
 use kt_base::Memory;
 use kt_spacetime::Event;
+use std::alloc::Global;
 use std::fmt;
 
 /// A mark of the legend.
@@ -112,29 +113,6 @@ impl fmt::Display for Sign {
     }
 }
 
-/// The line of a mark of the legend, and where it begins.
-#[derive(Clone, Copy)]
-pub(crate) struct Line {
-    sign: Sign,
-    x: u64,
-    y: u64,
-}
-
-impl fmt::Display for Line {
-    ghost use Rattle.std.specs.Prelude.{Some};
-    ghost use Rattle.kt_picture.specs.Texts.{line_text};
-
-    ghost output = { λ line. Some (line_text line.sign line.x line.y) };
-
-    fn fmt<W: fmt::Write>(&self, f: &mut fmt::Formatter<W>) -> fmt::Result {
-        writeln!(
-            f,
-            "<g transform='translate({} {})'>{}</g>",
-            self.x, self.y, self.sign
-        )
-    }
-}
-
 // Whether a row has a mark.
 fn row_shows(page: &Page<'_>, sign: Sign, s: &Shown) -> bool
     ensures { result ≡ row_shows (view_in page.now) sign s.now }
@@ -145,14 +123,13 @@ fn row_shows(page: &Page<'_>, sign: Sign, s: &Shown) -> bool
         Sign::Chain => is_linked(page, s.event),
         Sign::Transit => s.is_in_transit,
         Sign::Dropped => matches!(s.event, Event::Dropped { .. }),
-        Sign::Instance => matches!(s.event, Event::Began { .. }) || s.open_in.is_some(),
+        Sign::Instance => matches!(s.event, Event::Began { .. }) || s.stretch.open_in.is_some(),
         Sign::Checkpoint => matches!(s.event, Event::Took { .. }),
         Sign::Rollback => matches!(s.event, Event::Ready { .. }),
         Sign::Decision => matches!(s.event, Event::Decided { .. }),
         Sign::Failure => matches!(s.event, Event::Failed { .. }),
         Sign::Refusal => matches!(s.event, Event::Unwilling { .. } | Event::Refused { .. }),
-        Sign::Cut => false,
-        Sign::Wrong => false,
+        Sign::Cut | Sign::Wrong => false,
     }
 }
 
@@ -161,17 +138,27 @@ fn is_linked(page: &Page<'_>, event: Event) -> bool
     ensures { result ≡ is_linked (view_in page.now) event }
 {
     match event {
-        Event::Received { msg, .. } => page.links.get(msg).is_some(),
-        Event::Dropped { msg, .. } => page.links.get(msg).is_some(),
+        Event::Received { msg, .. } | Event::Dropped { msg, .. } => page.link(msg).is_some(),
         _ => false,
     }
 }
 
-// Whether one of the rows has a mark.
-fn rows_show(page: &Page<'_>, sign: Sign) -> bool
-    ensures { result ≡ list_any (row_shows (view_in page.now) sign) page.now.shown.now }
+// Whether a picture has a mark.
+fn has_sign(page: &Page<'_>, sign: Sign) -> bool
+    ensures { result ≡ has_sign (view_in page.now) sign }
 {
-    page.shown.iter().any(|s| row_shows(page, sign, s))
+    match sign {
+        Sign::Cut => has_new_cut(page.sheet.cuts.as_slice()),
+        Sign::Wrong => page.breach.is_some() || page.orphan.is_some(),
+        _ => rows_show(page, sign, page.sheet.shown.as_slice()),
+    }
+}
+
+// Whether one of these rows has a mark.
+fn rows_show(page: &Page<'_>, sign: Sign, shown: &[Shown]) -> bool
+    ensures { result ≡ list_any (row_shows (view_in page.now) sign) shown.now }
+{
+    shown.iter().any(|s| row_shows(page, sign, s))
 }
 
 // Whether a cut is drawn.
@@ -181,71 +168,25 @@ fn has_new_cut(cuts: &[CutMark]) -> bool
     cuts.iter().any(|c| c.is_new)
 }
 
-// Whether a picture has a mark beside those of its rows.
-fn has_beside(page: &Page<'_>, sign: Sign) -> bool
-    ensures { result ≡ has_beside (view_in page.now) sign }
+/// The marks that a picture has, in their order.
+pub(crate) fn signs_of(alloc: Global, page: &Page<'_>) -> Result<Vec<Sign>, Memory>
+    ensures exact { IfOk result (λ signs. signs.items ≡ signs_of (view_in page.now)) }
+    ensures few { IfOk result (λ signs. length signs.items ≤ 13) }
 {
-    match sign {
-        Sign::Cut => has_new_cut(page.cuts),
-        Sign::Wrong => page.breach.is_some() || page.orphan.is_some(),
-        _ => false,
-    }
+    let signs = SIGNS.iter().copied().filter(|sign| has_sign(page, *sign));
+    Ok(signs.collect(alloc)?)
 }
 
-// Whether a picture has a mark.
-fn has_sign(page: &Page<'_>, sign: Sign) -> bool
-    ensures { result ≡ has_sign (view_in page.now) sign }
+/// Gathers the legend of these marks, whose lines come two by two from this height on.
+pub(crate) fn push_legend(text: &mut String, signs: &[Sign], top: u64) -> Result<(), Memory>
+    requires top { top < 2 ^ 32 }
+    requires few { length signs.now ≤ 13 }
+    ensures { OnOk result (string_bytes text.new ≡ string_bytes text.old ++ legend_text signs.now top) }
 {
-    rows_show(page, sign) || has_beside(page, sign)
-}
-
-/// How many marks a picture has.
-pub(crate) fn count_signs(page: &Page<'_>) -> u64
-    ensures exact { result ≡ length (signs_of (view_in page.now)) }
-    ensures few { result ≤ 13 }
-{
-    signs_there(page) as u64
-}
-
-fn signs_there(page: &Page<'_>) -> usize
-    ensures { result ≡ length (signs_of (view_in page.now)) }
-{
-    SIGNS.iter().filter(|s| has_sign(page, **s)).count()
-}
-
-/// Gathers the legend, whose lines come two by two from this height on.
-pub(crate) fn push_legend(text: &mut String, page: &Page<'_>, top: u64) -> Result<(), Memory>
-    requires { top < 2 ^ 32 }
-    ensures { OnOk result (string_bytes text.new ≡ string_bytes text.old ++ legend_text (view_in page.now) top) }
-{
-    let mut place = 0;
-    for sign in &SIGNS {
-        let is_there = has_sign(page, *sign);
-        push(text, sign_if(is_there, top, place, *sign))?;
-        place = next_place(place, is_there);
+    for (place, sign) in signs.iter().enumerate() {
+        let x = 260 * (place as u64 % 2);
+        let y = top + 18 * (place as u64 / 2);
+        push(text, Some(Mark::Sign(*sign, x, y)))?;
     }
     Ok(())
-}
-
-// The line of a mark at a place of the legend, where the picture has it.
-fn sign_if(is_there: bool, top: u64, place: u64, sign: Sign) -> Option<Mark>
-    requires top { top < 2 ^ 32 }
-    requires place { place < 2 ^ 32 }
-    ensures { result ≡ (if is_there then Some (sign_at top place sign) else None) }
-{
-    if !is_there {
-        return None;
-    }
-    Some(Mark::Sign(Line {
-        sign,
-        x: 260 * (place % 2),
-        y: top + 18 * (place / 2),
-    }))
-}
-
-fn next_place(place: u64, is_there: bool) -> u64
-    requires { place < 2 ^ 32 }
-    ensures { result ≡ (if is_there then place + 1 else place) }
-{
-    if is_there { place + 1 } else { place }
 }

@@ -7,45 +7,20 @@ ghost use Rattle.kt_picture.specs.Links.{NotesMore, link_at};
 use kt_base::{InstNo, Memory, MsgNo};
 use kt_spacetime::Certificate;
 use std::alloc::Global;
-use std::marker::Model;
 
-/// By message of a log, the instance of the first certificate that has it in a chain.
-#[derive(Drop)]
-pub(crate) struct Links {
-    // By message, from 1 on.
-    noted: Vec<Option<InstNo>>,
-}
-
-impl Model for Links {
-    ghost use Rattle.std.specs.Prelude.{ℕ, List, Option};
-
-    ghost Value = { List (Option ℕ) };
-
-    ghost view = { λ l. l.noted.items };
-}
-
-impl Links {
-    /// The instances of the messages of a log with so many rows.
-    pub(crate) fn of(
-        alloc: Global,
-        certificates: &[Certificate],
-        count: usize,
-    ) -> Result<Links, Memory>
-        ensures { IfOk result (λ links. (msg : ℕ) → link_at links msg ≡ link_of count certificates.now msg) }
-    {
-        let mut noted = vec![in alloc; None; count]?;
-        for certificate in certificates {
-            note_certificate(&mut noted, certificate);
-        }
-        Ok(Links { noted })
+/// By message of a log with so many rows, from 1 on, the instance of the first certificate that has it in a chain.
+pub(crate) fn links_of(
+    alloc: Global,
+    certificates: &[Certificate],
+    count: usize,
+) -> Result<Vec<Option<InstNo>>, Memory>
+    ensures { IfOk result (λ links. (msg : ℕ) → link_at links.items msg ≡ link_of count certificates.now msg) }
+{
+    let mut noted = vec![in alloc; None; count]?;
+    for certificate in certificates {
+        note_certificate(&mut noted, certificate);
     }
-
-    /// The instance of a message.
-    pub(crate) fn get(&self, msg: MsgNo) -> Option<InstNo>
-        ensures { result ≡ link_at self.now msg }
-    {
-        *self.noted.get(msg.index())?
-    }
+    Ok(noted)
 }
 
 // Notes the instance of a certificate at the messages of its chains.

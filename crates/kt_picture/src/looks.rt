@@ -1,7 +1,7 @@
 //! How marks look, and where they stand.
 
 ghost use Rattle.std.specs.Prelude.{◌≡◌};
-ghost use Rattle.kt_picture.specs.Looks.{shape, x_of, y_of, word_y};
+ghost use Rattle.kt_picture.specs.Looks.{shape, x_of, y_of};
 
 use std::fmt;
 
@@ -241,19 +241,14 @@ impl fmt::Display for Spot {
     ghost output = { λ s. Some (spot_text s) };
 
     fn fmt<W: fmt::Write>(&self, f: &mut fmt::Formatter<W>) -> fmt::Result {
-        let y = word_y(self.at.lane, self.below, self.at.column);
-        write!(f, "x='{}' y='{y}' dx='4", x_of(self.at.column))
+        let Place { column, lane } = self.at;
+        // In one of four lines between two lanes, the next column's in the next line.
+        let first = if self.below {
+            y_of(lane) + 20
+        } else {
+            y_of(lane) - 44
+        };
+        let y = first + 10 * (u64::from(column) % 4);
+        write!(f, "x='{}' y='{y}' dx='4", x_of(column))
     }
-}
-
-// In one of four lines between two lanes, the next column's in the next line.
-fn word_y(lane: u8, below: bool, column: u32) -> u64
-    ensures { result ≡ word_y lane below column }
-{
-    let line = if below {
-        y_of(lane) + 20
-    } else {
-        y_of(lane) - 44
-    };
-    line + 10 * (u64::from(column) % 4)
 }

@@ -3,57 +3,30 @@
 ghost use Rattle.std.specs.Prelude.{◌≡◌, ◌++◌, OnOk, string_bytes};
 ghost use Rattle.kt_picture.specs.Texts.{drawn};
 
-use crate::legend::Line;
+use crate::legend::Sign;
 use crate::looks::{Look, Place, x_of, y_of};
+use crate::shown::Stretch;
 use crate::words::{RuleName, Word};
 use kt_base::Memory;
 use kt_spacetime::Rule;
 use std::fmt;
 use std::fmt::Write;
 
-/// A stretch of a lane up to a column, over a bar while its process is in an instance.
-#[derive(Clone, Copy)]
-pub(crate) struct Stretch {
-    pub(crate) from: Place,
-    pub(crate) until: u32,
-    pub(crate) up: bool,
-    pub(crate) open_in: Option<u16>,
-}
-
-impl fmt::Display for Stretch {
-    ghost use Rattle.std.specs.Prelude.{Some};
-    ghost use Rattle.kt_picture.specs.Texts.{stretch_text};
-
-    ghost output = { λ s. Some (stretch_text s.from s.until s.up s.open_in) };
-
-    fn fmt<W: fmt::Write>(&self, f: &mut fmt::Formatter<W>) -> fmt::Result {
-        let from = self.from;
-        let x = x_of(self.until);
-        let look = if self.up { Look::Up } else { Look::Down };
-        match self.open_in {
-            Some(inst) => {
-                writeln!(f, "<path class='in c{}' d='M{from}H{x}'/>", inst % 6)?;
-                writeln!(f, "<path class='{look}' d='M{from}H{x}'/>")
-            }
-            None => writeln!(f, "<path class='{look}' d='M{from}H{x}'/>"),
-        }
-    }
-}
-
 /// A mark of a picture.
 #[derive(Clone, Copy)]
 pub(crate) enum Mark {
-    Stretch(Stretch),
-    /// Where a permanent cut crosses a lane.
-    Crossing { x: u64, lane: u8 },
-    /// The number of a row above the lanes.
-    RowNumber { row: u32, column: u32 },
+    /// A stretch of this lane up to a column, over a bar while its process is in an instance.
+    Stretch(Stretch, u8, u32),
+    /// Where a permanent cut crosses a lane: so far from the left.
+    Crossing(u64, u8),
+    /// The number of a row above the lanes, at a column.
+    RowNumber(u32, u32),
     /// A word beside a mark or an arrow.
     Word(Word),
     /// The rule that the row at a column breaks.
-    Rule { rule: Rule, column: u32 },
-    /// A line of the legend.
-    Sign(Line),
+    Rule(Rule, u32),
+    /// A line of the legend, and where it begins.
+    Sign(Sign, u64, u64),
 }
 
 impl fmt::Display for Mark {
@@ -64,25 +37,37 @@ impl fmt::Display for Mark {
 
     fn fmt<W: fmt::Write>(&self, f: &mut fmt::Formatter<W>) -> fmt::Result {
         match *self {
-            Mark::Stretch(stretch) => write!(f, "{stretch}"),
-            Mark::Crossing { x, lane } => {
+            Mark::Stretch(stretch, lane, until) => {
+                let column = stretch.since;
+                let from = Place { column, lane };
+                let x = x_of(until);
+                let look = if stretch.up { Look::Up } else { Look::Down };
+                match stretch.open_in {
+                    Some(inst) => {
+                        let colour = inst.get() % 6;
+                        writeln!(f, "<path class='in c{colour}' d='M{from}H{x}'/>")?;
+                        writeln!(f, "<path class='{look}' d='M{from}H{x}'/>")
+                    }
+                    None => writeln!(f, "<path class='{look}' d='M{from}H{x}'/>"),
+                }
+            }
+            Mark::Crossing(x, lane) => {
                 let y = y_of(lane);
                 write!(f, "{x},{} {x},{} ", y - 15, y + 15)
             }
-            Mark::RowNumber { row, column } => {
+            Mark::RowNumber(row, column) => {
                 let x = x_of(column);
                 writeln!(f, "<text class='top' x='{x}' y='20'>{row}</text>")
             }
             Mark::Word(word) => write!(f, "{word}"),
-            Mark::Rule { rule, column } => {
+            Mark::Rule(rule, column) => {
                 let x = x_of(column);
-                writeln!(
-                    f,
-                    "<text class='rule' x='{x}' y='34'>{}</text>",
-                    RuleName(rule)
-                )
+                let name = RuleName(rule);
+                writeln!(f, "<text class='rule' x='{x}' y='34'>{name}</text>")
             }
-            Mark::Sign(line) => write!(f, "{line}"),
+            Mark::Sign(sign, x, y) => {
+                writeln!(f, "<g transform='translate({x} {y})'>{sign}</g>")
+            }
         }
     }
 }

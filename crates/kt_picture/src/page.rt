@@ -1,13 +1,13 @@
 //! What marks are drawn by.
 
 ghost use Rattle.std.specs.Prelude.{◌≡◌};
+ghost use Rattle.kt_picture.specs.Links.{link_at};
 
 use crate::breach::Breach;
+use crate::diagram::Sheet;
 use crate::lanes::Lanes;
-use crate::links::Links;
-use crate::shown::{CutMark, End, Shown};
 use crate::words::Name;
-use kt_base::{MsgNo, ProcNo};
+use kt_base::{InstNo, MsgNo, ProcNo};
 use kt_plan::Names;
 use kt_spacetime::{Certificate, Event};
 use std::alloc::Global;
@@ -18,20 +18,17 @@ pub(crate) struct Page<'a> {
     pub(crate) alloc: Global,
     pub(crate) names: &'a Names,
     pub(crate) lanes: &'a Lanes,
-    /// How many rows come before the window.
-    pub(crate) before: u32,
+    pub(crate) sheet: &'a Sheet,
     /// How many columns there are.
     pub(crate) columns: u32,
-    pub(crate) shown: &'a [Shown],
-    pub(crate) cuts: &'a [CutMark],
-    /// By process, how its lane goes on to the right end.
-    pub(crate) ends: &'a [End],
     /// The row that comes after the window and breaks a rule.
     pub(crate) breach: Option<Breach>,
     pub(crate) certificates: &'a [Certificate],
     pub(crate) orphan: Option<MsgNo>,
+    /// The rows up to the window's end.
     pub(crate) rows: &'a [Event],
-    pub(crate) links: &'a Links,
+    /// By message, from 1 on, the instance of the first certificate that has it in a chain.
+    pub(crate) links: &'a [Option<InstNo>],
 }
 
 impl<'a> Page<'a> {
@@ -40,9 +37,14 @@ impl<'a> Page<'a> {
         ensures names { result.names.now ≡ self.now.names.now }
         ensures process { result.p ≡ p }
     {
-        Name {
-            names: self.names,
-            p,
-        }
+        let names = self.names;
+        Name { names, p }
+    }
+
+    /// The instance whose chain has a message.
+    pub(crate) fn link(&self, msg: MsgNo) -> Option<InstNo>
+        ensures { result ≡ link_at self.now.links.now msg }
+    {
+        *self.links.get(msg.index())?
     }
 }

@@ -1,13 +1,13 @@
 //! Which marks show a row.
 
 ghost use Rattle.std.specs.Prelude.{◌≡◌};
-ghost use Rattle.kt_picture.specs.Marks.{place_of, stretch_of, arrow_look, paint_of, tail_of, arrow, arrow_at, short_arrow, figure_at, figure_of, body_sent, body_of, label, word, word_at, number_at};
+ghost use Rattle.kt_picture.specs.Marks.{place_of, stretch_of, arrow_look, colour_for, tail_of, arrow, arrow_at, figure_at, figure_of, body_of, label, word, word_at, number_at};
 ghost use Rattle.kt_picture.specs.Pages.{view_in};
 
-use crate::looks::{Figure, Look, Outline, Paint, Path, Place, Spot, shape};
-use crate::mark::{Mark, Stretch};
+use crate::looks::{Figure, Look, Outline, Path, Place, Spot, shape};
+use crate::mark::Mark;
 use crate::page::Page;
-use crate::shown::{Shown, number_of};
+use crate::shown::Shown;
 use crate::words::{Saying, Word};
 use kt_base::{InstNo, MsgNo, ProcNo};
 use kt_spacetime::Event;
@@ -26,15 +26,7 @@ pub(crate) fn place_of(page: &Page<'_>, s: &Shown) -> Place
 pub(crate) fn stretch_of(page: &Page<'_>, s: &Shown) -> Mark
     ensures { result ≡ stretch_of (view_in page.now) s.now }
 {
-    Mark::Stretch(Stretch {
-        from: Place {
-            column: s.since,
-            lane: page.lanes.of(s.event.process()),
-        },
-        until: s.column,
-        up: s.up,
-        open_in: s.open_in,
-    })
+    Mark::Stretch(s.stretch, page.lanes.of(s.event.process()), s.column)
 }
 
 /// The arrow of this row that takes a message, or that sends one which is in transit at the window's end.
@@ -42,22 +34,16 @@ pub(crate) fn arrow_at(page: &Page<'_>, s: &Shown, event: Event) -> Option<Path>
     ensures { result ≡ arrow_at (view_in page.now) s.now event }
 {
     match event {
-        Event::Sent { p, to, .. } if s.is_in_transit => Some(short_arrow(page, s, p, to)),
+        // Short, towards its receiver's lane.
+        Event::Sent { p, to, .. } if s.is_in_transit => {
+            let down = page.lanes.of(p) < page.lanes.of(to);
+            let figure = shape(Look::Way, None, Outline::Way { down });
+            let from = place_of(page, s);
+            Some(Path { from, figure })
+        }
         Event::Received { from, msg, .. } => Some(arrow(page, s, from, msg)),
         Event::Dropped { from, msg, .. } => Some(arrow(page, s, from, msg)),
-        Event::Sent { .. } => None,
         _ => None,
-    }
-}
-
-// The short arrow of a message in transit.
-fn short_arrow(page: &Page<'_>, s: &Shown, p: ProcNo, to: ProcNo) -> Path
-    ensures { result ≡ short_arrow (view_in page.now) s.now p to }
-{
-    let down = page.lanes.of(p) < page.lanes.of(to);
-    Path {
-        from: place_of(page, s),
-        figure: shape(Look::Way, None, Outline::Way { down }),
     }
 }
 
@@ -65,18 +51,15 @@ fn short_arrow(page: &Page<'_>, s: &Shown, p: ProcNo, to: ProcNo) -> Path
 fn arrow(page: &Page<'_>, s: &Shown, from: ProcNo, msg: MsgNo) -> Path
     ensures { result ≡ arrow (view_in page.now) s.now from msg }
 {
-    let link = page.links.get(msg);
+    let link = page.link(msg);
     let stands_out = page.orphan == Some(msg);
     let look = arrow_look(s.is_undone, s.is_taken_back, stands_out, link.is_some());
-    let tail = Place {
-        column: tail_of(page.before, msg, s.column),
+    let from = Place {
+        column: tail_of(page.sheet.before, msg, s.column),
         lane: page.lanes.of(from),
     };
-    let figure = Figure {
-        paint: paint_of(look, link),
-        outline: Outline::To(place_of(page, s)),
-    };
-    Path { from: tail, figure }
+    let figure = shape(look, colour_for(look, link), Outline::To(place_of(page, s)));
+    Path { from, figure }
 }
 
 // How an arrow looks.
@@ -93,15 +76,14 @@ fn arrow_look(is_undone: bool, is_taken_back: bool, stands_out: bool, linked: bo
     }
 }
 
-// A message of a chain alone has a colour.
-fn paint_of(look: Look, link: Option<InstNo>) -> Paint
-    ensures { result ≡ paint_of look link }
+// The number of the instance whose colour an arrow has: a message of a chain alone has one.
+fn colour_for(look: Look, link: Option<InstNo>) -> Option<u16>
+    ensures { result ≡ colour_for look link }
 {
-    let inst = match look {
-        Look::Linked => number_of(link),
+    match look {
+        Look::Linked => Some(link?.get()),
         _ => None,
-    };
-    Paint { look, inst }
+    }
 }
 
 // The column where the arrow of a message begins: that of the row which sent it, but not behind its head.
@@ -116,10 +98,9 @@ fn tail_of(before: u32, msg: MsgNo, column: u32) -> u32
 pub(crate) fn figure_of(page: &Page<'_>, s: &Shown) -> Path
     ensures { result ≡ figure_of (view_in page.now) s.now }
 {
-    Path {
-        from: place_of(page, s),
-        figure: figure_at(s),
-    }
+    let from = place_of(page, s);
+    let figure = figure_at(s);
+    Path { from, figure }
 }
 
 fn figure_at(s: &Shown) -> Figure
@@ -152,8 +133,7 @@ fn figure_at(s: &Shown) -> Figure
         }
         Event::Closed { inst, .. } => shape(Look::Open, Some(inst.get()), Outline::Ending),
         Event::Failed { .. } => shape(Look::Failed, None, Outline::Bolt),
-        Event::Unwilling { .. } => shape(Look::Refused, None, Outline::Ban),
-        Event::Refused { .. } => shape(Look::Refused, None, Outline::Ban),
+        Event::Unwilling { .. } | Event::Refused { .. } => shape(Look::Refused, None, Outline::Ban),
     }
 }
 
@@ -162,10 +142,7 @@ pub(crate) fn number_at(s: &Shown) -> Option<Mark>
     ensures { result ≡ number_at s.now.row s.now.column }
 {
     if s.column % 5 == 0 {
-        Some(Mark::RowNumber {
-            row: s.row,
-            column: s.column,
-        })
+        Some(Mark::RowNumber(s.row, s.column))
     } else {
         None
     }
@@ -179,7 +156,6 @@ pub(crate) fn word_at(page: &Page<'_>, s: &Shown, event: Event) -> Option<Mark>
         Event::Sent { p, to, body } if s.is_in_transit => {
             label(page, s, p, to, s.row, Some(body))
         }
-        Event::Sent { .. } => None,
         Event::Received { p, from, msg } => {
             label(page, s, p, from, msg.get(), body_of(page, msg))
         }
@@ -188,8 +164,9 @@ pub(crate) fn word_at(page: &Page<'_>, s: &Shown, event: Event) -> Option<Mark>
             Some(word(page, s, false, Saying::Instance(kind, inst)))
         }
         Event::Decided { .. } => Some(word(page, s, true, Saying::Row(s.row))),
-        Event::Unwilling { cause, .. } => Some(word(page, s, true, Saying::Why(cause))),
-        Event::Refused { cause, .. } => Some(word(page, s, true, Saying::Why(cause))),
+        Event::Unwilling { cause, .. } | Event::Refused { cause, .. } => {
+            Some(word(page, s, true, Saying::Why(cause)))
+        }
         _ => None,
     }
 }
@@ -198,10 +175,8 @@ fn word(page: &Page<'_>, s: &Shown, below: bool, saying: Saying) -> Mark
     ensures { result ≡ word (view_in page.now) s.now below saying }
 {
     let at = place_of(page, s);
-    Mark::Word(Word {
-        spot: Spot { at, below },
-        saying,
-    })
+    let spot = Spot { at, below };
+    Mark::Word(Word { spot, saying })
 }
 
 // The word beside the arrow of a message between a process and another one, on the other one's side.
@@ -229,19 +204,15 @@ const MOST_LABELLED: u32 = 64;
 fn body_of(page: &Page<'_>, msg: MsgNo) -> Option<i64>
     ensures { result ≡ body_of (view_in page.now) msg }
 {
-    if msg.get() <= page.before {
+    if msg.get() <= page.sheet.before {
         return None;
     }
-    match page.shown.get((msg.get() - page.before - 1) as usize) {
-        Some(s) => body_sent(s.event),
-        None => None,
-    }
-}
-
-fn body_sent(event: Event) -> Option<i64>
-    ensures { result ≡ body_sent event }
-{
-    match event {
+    match page
+        .sheet
+        .shown
+        .get((msg.get() - page.sheet.before - 1) as usize)?
+        .event
+    {
         Event::Sent { body, .. } => Some(body),
         _ => None,
     }

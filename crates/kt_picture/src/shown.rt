@@ -1,8 +1,6 @@
 //! What a row of the window shows.
 
-ghost use Rattle.std.specs.Prelude.{◌≡◌};
-
-use kt_base::{InstNo, ProcNo};
+use kt_base::InstNo;
 use kt_spacetime::Event;
 
 /// What a row of the window shows, with what became of it by the window's end. Columns are counted from 1; 0 is the
@@ -13,12 +11,8 @@ pub(crate) struct Shown {
     pub(crate) row: u32,
     pub(crate) column: u32,
     pub(crate) event: Event,
-    /// The column of the process's row before this one.
-    pub(crate) since: u32,
-    /// Whether the process was up until this row.
-    pub(crate) up: bool,
-    /// The number of the instance that the process was in until this row.
-    pub(crate) open_in: Option<u16>,
+    /// How the process's lane comes to this row.
+    pub(crate) stretch: Stretch,
     /// Whether the send of the row's message is undone.
     pub(crate) is_undone: bool,
     /// Whether the row receives a message, and that is undone.
@@ -29,16 +23,15 @@ pub(crate) struct Shown {
     pub(crate) decision: Option<bool>,
 }
 
-/// How a process's lane goes on to the right end.
+/// A stretch of a process's lane, from its last row on.
 #[derive(Clone, Copy)]
-pub(crate) struct End {
-    pub(crate) process: ProcNo,
-    /// The column of the process's last row.
+pub(crate) struct Stretch {
+    /// The column of that row.
     pub(crate) since: u32,
     /// Whether the process is up after it.
     pub(crate) up: bool,
-    /// The number of the instance that the process is in after it.
-    pub(crate) open_in: Option<u16>,
+    /// The instance that the process is in after it.
+    pub(crate) open_in: Option<InstNo>,
 }
 
 /// The permanent cut after the commit of an instance: by process the column of its permanent position.
@@ -48,14 +41,4 @@ pub(crate) struct CutMark {
     pub(crate) columns: [u32; 64],
     /// Whether it differs from the one before.
     pub(crate) is_new: bool,
-}
-
-/// The number of an instance.
-pub(crate) fn number_of(inst: Option<InstNo>) -> Option<u16>
-    ensures { result ≡ inst }
-{
-    match inst {
-        Some(inst) => Some(inst.get()),
-        None => None,
-    }
 }

@@ -43,5 +43,4 @@ pub(crate) const HEADS: &str = "<defs>
 <marker id='k3' viewBox='0 0 8 8' refX='8' refY='4' markerUnits='userSpaceOnUse' markerWidth='9' markerHeight='9' orient='auto'><path class='tip k3' d='M0 0L8 4L0 8z'/></marker>
 <marker id='k4' viewBox='0 0 8 8' refX='8' refY='4' markerUnits='userSpaceOnUse' markerWidth='9' markerHeight='9' orient='auto'><path class='tip k4' d='M0 0L8 4L0 8z'/></marker>
 <marker id='k5' viewBox='0 0 8 8' refX='8' refY='4' markerUnits='userSpaceOnUse' markerWidth='9' markerHeight='9' orient='auto'><path class='tip k5' d='M0 0L8 4L0 8z'/></marker>
-<marker id='o' viewBox='0 0 8 8' refX='8' refY='4' markerUnits='userSpaceOnUse' markerWidth='9' markerHeight='9' orient='auto'><path class='open' d='M0 0L8 4L0 8'/></marker></defs>
-";
+<marker id='o' viewBox='0 0 8 8' refX='8' refY='4' markerUnits='userSpaceOnUse' markerWidth='9' markerHeight='9' orient='auto'><path class='open' d='M0 0L8 4L0 8'/></marker></defs>";

@@ -1,21 +1,8 @@
-use Rattle.std.proofs.Common.{rules, ◌≡◌, ◌==◌, true, false, length, refl, sym}
-use Rattle.std.proofs.lemmas.Option.{slice_get_read}
+use Rattle.std.proofs.Common.{rules, tests, ◌==◌}
+use Rattle.std.proofs.lemmas.Iterator.{YieldsList-from_slice}
+use Rattle.std.proofs.lemmas.Iterator.Search.{find_from_yields_List}
 use Rattle.kt_spacetime.specs.declared.certificate.Certificate.{Certificate}
-use Rattle.kt_picture.proofs.LinkFacts.{first_found, none_next}
 use Rattle.kt_picture.proofs.evidence.certificate_of.Goals as goal
 
-pub returns-then-eq : goal.returns-then-eq
-returns-then-eq c =
-    let items = c.args.certificates.now in
-    let i = c.loop-certificate.certificate-index in
-    let item = c.certificate-item.result in
-    let passes : (item.inst == c.args.inst) ≡ true = search rules in
-    sym (first_found (λ (v : Certificate). v.inst == c.args.inst) items i item (slice_get_read items (length items) i item refl c.loop-certificate-test.true c.certificate-item.is) passes c.loop-certificate.invariant)
-
-pub loop-certificate-preserved : goal.loop-certificate-preserved
-loop-certificate-preserved c =
-    let items = c.args.certificates.now in
-    let i = c.loop-certificate.certificate-index in
-    let item = c.certificate-item.result in
-    let fails : (item.inst == c.args.inst) ≡ false = search rules in
-    none_next (λ (v : Certificate). v.inst == c.args.inst) items i item (slice_get_read items (length items) i item refl c.loop-certificate-test.true c.certificate-item.is) fails c.loop-certificate.invariant
+pub returns : goal.returns
+returns c = find_from_yields_List (λ (v : Certificate). v.inst == c.args.inst) _ _ _ c.find.ensures.ran (YieldsList-from_slice c.args.certificates.now cc) (λ x b q k. search (rules, tests))

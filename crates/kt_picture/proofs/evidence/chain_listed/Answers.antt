@@ -1,21 +1,16 @@
-use Rattle.std.proofs.Common.{rules, ◌≡◌, ◌==◌, true, false, ℕ, List, length, refl, sym, ap, ◌∙◌}
-use Rattle.std.proofs.lemmas.Option.{slice_get_read}
+use Rattle.std.proofs.Common.{rules, tests, ◌∙◌, ◌==◌, ℕ, List, ap, sym}
+use Rattle.std.specs.Prelude.{option_map}
+use Rattle.std.proofs.lemmas.Iterator.{YieldsList-from_slice}
+use Rattle.std.proofs.lemmas.Iterator.Search.{find_from_yields_List}
 use Rattle.kt_picture.specs.Evidence.{chain_of_member}
-use Rattle.kt_picture.proofs.LinkFacts.{first_found, none_next}
 use Rattle.kt_picture.proofs.evidence.chain_listed.Goals as goal
 
-pub returns-then-eq : goal.returns-then-eq
-returns-then-eq c =
-    let items = c.args.members.now in
-    let i = c.loop-member.member-index in
-    let item = c.member-item.result in
-    let passes : (item.0 == c.args.p) ≡ true = search rules in
-    c.messages.ensures ∙ ap chain_of_member (sym (first_found (λ (v : ℕ × List ℕ). v.0 == c.args.p) items i item (slice_get_read items (length items) i item refl c.loop-member-test.true c.member-item.is) passes c.loop-member.invariant))
+pub returns-in-Some : goal.returns-in-Some
+returns-in-Some c =
+    let found = find_from_yields_List (λ (m : ℕ × List ℕ). m.0 == c.args.p) _ _ c.find.result c.find.ensures.ran (YieldsList-from_slice c.args.members.now cc) (λ x b q k. search (rules, tests)) in
+    c.messages.ensures ∙ ap chain_of_member (ap (option_map (λ m. m.now)) (sym c.in-Some.is) ∙ found)
 
-pub loop-member-preserved : goal.loop-member-preserved
-loop-member-preserved c =
-    let items = c.args.members.now in
-    let i = c.loop-member.member-index in
-    let item = c.member-item.result in
-    let fails : (item.0 == c.args.p) ≡ false = search rules in
-    none_next (λ (v : ℕ × List ℕ). v.0 == c.args.p) items i item (slice_get_read items (length items) i item refl c.loop-member-test.true c.member-item.is) fails c.loop-member.invariant
+pub returns-in-None : goal.returns-in-None
+returns-in-None c =
+    let found = find_from_yields_List (λ (m : ℕ × List ℕ). m.0 == c.args.p) _ _ c.find.result c.find.ensures.ran (YieldsList-from_slice c.args.members.now cc) (λ x b q k. search (rules, tests)) in
+    ap chain_of_member (ap (option_map (λ m. m.now)) (sym c.in-None.is) ∙ found)

@@ -1,10 +1,9 @@
-use Rattle.std.proofs.Common.{◌≡◌, ◌<◌, ℕ, zero, suc, Bool, true, false, List, [], ◌∷◌, cond, ap, ◌∙◌, arith}
+use Rattle.std.proofs.Common.{◌≡◌, zero, suc, Bool, true, false, List, [], ◌∷◌, cond, ap, ◌∙◌, arith}
 use Rattle.std.specs.Prelude.{Contains, filter}
 use Rattle.std.proofs.lemmas.List.Elements.{All-contains, Contains-append_left, Contains-append_right, filter_passes}
 use Rattle.kt_picture.specs.declared.legend.Sign.{Sign}
 use Rattle.kt_picture.specs.declared.legend.TheConstants.{SIGNS}
 use Rattle.kt_picture.specs.Legend.{has_sign}
-use Rattle.kt_picture.specs.View.{View}
 use Rattle.kt_picture.proofs.laws.legend_tells_marks.Goals as goal
 
 passed : (b : Bool) (x sign : Sign) (rest : List Sign) → Contains (x ∷ []) sign → b ≡ true → Contains (cond b (x ∷ rest) rest) sign

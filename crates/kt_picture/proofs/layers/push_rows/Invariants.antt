@@ -6,4 +6,4 @@ use Rattle.kt_picture.specs.Pages.{view_in}
 use Rattle.kt_picture.proofs.layers.push_rows.Given as goal
 
 abbrev pub invariant-loop-row : goal.invariant-loop-row
-invariant-loop-row l = (string_bytes l.text) ≡ (string_bytes l.fn.text) ++ flat_map (row_mark l.layer (view_in l.page)) (take l.row-index l.shown)
+invariant-loop-row l = (string_bytes l.text) ≡ (string_bytes l.fn.text) ++ flat_map (row_mark l.layer (view_in l.page)) (take l.row-index l.row-items)

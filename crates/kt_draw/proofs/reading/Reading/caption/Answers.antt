@@ -1,4 +1,4 @@
-use Rattle.std.proofs.Common.{◌≡◌, ◌∙◌, ◌+◌, ap, length}
+use Rattle.std.proofs.Common.{◌∙◌, ◌+◌, ap}
 use Rattle.std.proofs.lemmas.Result.{IfOk-weaker}
 use Rattle.kt_picture.specs.Breach.{caption_of}
 use Rattle.kt_draw.proofs.reading.Reading.caption.Goals as goal

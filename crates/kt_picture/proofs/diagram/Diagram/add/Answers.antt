@@ -8,18 +8,21 @@ use Rattle.kt_picture.specs.declared.shown.Shown.{Shown}
 use Rattle.kt_picture.specs.DiagramOf.{seen_in}
 use Rattle.kt_picture.specs.Followed.{AreFollowed, IsFollowedAs, message_in, plain_of}
 use Rattle.kt_picture.proofs.DiagramFacts.{diagram_added}
+use Rattle.kt_picture.proofs.WindowFacts.{known_next}
 use Rattle.kt_picture.proofs.diagram.Diagram.add.Goals as goal
 
-pub returns-in-Ok-clause-added : goal.returns-in-Ok-clause-added
-returns-in-Ok-clause-added c = λ front window h.
+pub returns-clause-added : goal.returns-clause-added
+returns-clause-added c = λ front window h.
     let row = c.args.row.now in
     let d = c.args.self.now in
     let log = front ++ window in
     let more = log ++ row ∷ [] in
     let seen = seen_in front window in
-    let fed = c.in_default.ensures.fed seen log h.known in
+    let fed = c.in_ok-feed.ensures.fed log h.known.walk in
+    let after = c.after-after.ensures in
+    let known = known_next d.known c.after-after.result c.args.walk.now c.feed.new.self seen log row h.known fed.1 after.column after.latest after.taken (after.places log h.known.walk) in
     let plain = c.plain-plain.ensures seen log h.known in
-    let taken = c.taken_by-taken.ensures log h.known.walk (legal_last log row fed.walk.control.legal).1 in
+    let taken = c.taken_by-taken.ensures log h.known.walk (legal_last log row fed.0).1 in
     let value = c.deref_mut.ensures.value in
     let new = c.follow.new.entries in
     let plains : map plain_of new ≡ map plain_of d.entries.items = c.follow.ensures.plain ∙ ap (map plain_of) value in
@@ -28,8 +31,8 @@ returns-in-Ok-clause-added c = λ front window h.
     let next : c.after-msg.result ≡ length more = omega (arith, c.after-msg.ensures, c.rows.ensures.rows, h.known.walk.control.number, length_push log row) in
     let number : c.after-msg.result ≡ c.plain-plain.result.row = omega (arith, c.after-msg.ensures, c.rows.ensures.rows, h.known.walk.control.number, ap (λ (v : Shown). v.row) plain, ap (λ (s : Past). s.rows) h.known.past, rows_length log) in
     let event : row ≡ c.plain-plain.result.event = sym (ap (λ (v : Shown). v.event) plain) in
-    let message = c.message_of-message.ensures log fed.walk next taken in
-    diagram_added d _ c.args.walk.now c.add.new.walk front window row _ h fed c.with_named-named.ensures plain _ (ap (map plain_of) same ∙ plains) c.in-Ok.ensures.entries
-    (subst (λ (l : List Entry). AreFollowed more l) (sym same) (c.follow.ensures.followed log fed.walk (subst (λ (l : List Entry). AreFollowed log l) (sym value) h.followed)))
+    let message = c.message_of-message.ensures log fed.1 next taken in
+    diagram_added d _ c.args.walk.now c.feed.new.self front window row _ h known c.with_named-self.ensures plain _ (ap (map plain_of) same ∙ plains) c.in_ok-push_item.ensures
+    (subst (λ (l : List Entry). AreFollowed more l) (sym same) (c.follow.ensures.followed log fed.1 (subst (λ (l : List Entry). AreFollowed log l) (sym value) h.followed)))
     (subst (λ (o : Option ℕ). IsFollowedAs more o c.message_of-message.result) (λ j. message_in (number j) (event j)) message)
-    c.in-Ok.ensures.cuts
+    c.in_ok-push_cut.ensures

@@ -15,5 +15,5 @@ returns-clause-exact c = λ front window h.
     let few = columns_few d w front window h in
     sheet_of d w front window _ h refl (omega (arith, few, c.rows-rows.ensures.rows, c.saturating_sub-before.ensures, c.requires.few)) (omega (arith, c.rows-rows.ensures.rows, c.saturating_sub-before.ensures, c.requires.few))
     (c.in_ok-shown.ensures log h.known.walk (subst (λ (l : List Entry). AreFollowed log l) (sym made) h.followed) ∙ ap (told_rows log) made)
-    (c.in_ok-extend_from_slice.ensures.items ∙ (λ j. c.new-cuts.ensures.items j ++ cuts j))
+    (c.in_ok-from_slice.ensures.items ∙ cuts)
     (c.in_ok-ends.ensures (seen_in front window) log h.known)

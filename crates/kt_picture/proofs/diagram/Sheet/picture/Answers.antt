@@ -1,10 +1,11 @@
-use Rattle.std.proofs.Common.{◌≡◌, ◌∙◌, ◌++◌, ◌+◌, ℕ, if◌then◌else◌}
+use Rattle.std.proofs.Common.{◌≡◌, ◌∙◌, ◌++◌, ◌+◌, ℕ, ap, Bool, Option, List, if◌then◌else◌}
 use Rattle.std.proofs.lemmas.Result.{IfOk-weaker}
 use Rattle.kt_spacetime.specs.declared.event.Event.{Event}
 use Rattle.kt_picture.specs.Breach.{breach_rows}
 use Rattle.kt_picture.specs.Layers.{picture_text}
+use Rattle.kt_picture.specs.Links.{link_at}
 use Rattle.kt_picture.specs.Picture.{columns_of}
-use Rattle.kt_picture.proofs.DiagramFacts.{front_for, lanes_named, same_link, same_reason}
+use Rattle.kt_picture.proofs.DiagramFacts.{byte_is, front_for, lanes_named, same_link, same_reason}
 use Rattle.kt_picture.proofs.diagram.Sheet.picture.Goals as goal
 
 pub returns : goal.returns
@@ -14,7 +15,7 @@ returns c =
     let rows = c.args.rows.now in
     IfOk-weaker c.text_of.result _ _
     (λ t made log before h told.
-    let columns : c.columns_of.result ≡ columns_of log before c.args.breach = c.columns_of.ensures ∙ (λ j. h.columns j + (if c.is_some.ensures j then 1 else 0)) in
+    let columns : c.args.self.now.columns + c.from.result ≡ columns_of log before c.args.breach = (λ j. h.columns j + (c.from.ensures ∙ byte_is _ ∙ ap (λ (b : Bool). if b then 1 else 0) c.is_some.ensures) j) in
     let front = front_for c.args.self.now rows log c.front_of-rows.result.now before certificates h c.front_of-rows.ensures told in
     let lanes = c.in_ok-lanes.ensures ∙ lanes_named c.with_breach.result (log ++ breach_rows c.args.breach) (c.with_breach.ensures log h.named) in
     made
@@ -23,11 +24,11 @@ returns c =
       lanes = lanes j;
       before = h.before_is j;
       columns = columns j;
-      shown = (c.as_slice.ensures.value ∙ h.shown) j;
-      cuts = (c.as_slice-2.ensures.value ∙ h.cuts) j;
-      ends = (c.as_slice-3.ensures.value ∙ h.ends) j;
+      shown = h.shown j;
+      cuts = h.cuts j;
+      ends = h.ends j;
       breach = c.args.breach;
-      link = λ (msg : ℕ). (c.in_ok-links.ensures msg ∙ same_link c.front_of-rows.result.now log certificates msg front) j;
+      link = λ (msg : ℕ). (ap (λ (l : List (Option ℕ)). link_at l msg) c.as_slice.ensures.value ∙ c.in_ok-links.ensures msg ∙ same_link c.front_of-rows.result.now log certificates msg front) j;
       orphan = c.args.evidence.now.orphan;
       reason = λ (row : Event). same_reason names c.front_of-rows.result.now log certificates row front j;
     }) c.args.caption.now))
