@@ -70,7 +70,6 @@ pub joined_save_as : (x : ProcessState) (y : SeenProcess) (t : State) (part : Pa
     IsSeenAs x y → n ≤ 64 → Joins n k parent part (Join asks goes) → ((calls : List Call) → TablesStandFor x.tables calls → ckpt_actions.AsksCheckpointCohort calls (Join asks goes)) →
     ((calls : List Call) → TablesStandFor x.tables calls → TablesStandFor t (calls ++ on_tentative ∷ [])) →
     IsProcessJoined kind.Checkpoint n k parent (mark_of marks) noted y (record { tables = t; side = Some (side.Checkpoint (record { part = part; marks = marks })); up = x.up; used = x.used }) asks goes
-unfolding ckpt.is_asked ckpt.asked_label is_asked_in_checkpoint Rattle.kt_machine.specs.CallTests.checkpoint_label
 joined_save_as x y t part marks n k parent noted asks goes h few joins cohort stands =
     let made : part_as false part no_note (mark_of marks) ≡ new_part n false parent (is_asked_in_checkpoint y.calls) no_note (mark_of marks) =
     made_part n k false parent no_note (mark_of marks) part asks _ _ few joins.0 (cohort y.calls h.stands) in
@@ -106,7 +105,6 @@ refuses_save x y s able marks n k (Settle commit tell) a h num i u start = absur
 pub joined_roll_as : (x : ProcessState) (y : SeenProcess) (r : RollSide) (n k : ℕ) (parent : Option ℕ) (marks : ℕ → ℕ) (noted : ℕ → Option ℕ) (asks : List (ℕ × ℕ)) (goes : Then) →
     IsSeenAs x y → n ≤ 64 → Joins n k parent r.part (Join asks goes) → ((calls : List Call) → TablesStandFor x.tables calls → roll_actions.AsksRollbackCohort calls (Join asks goes)) →
     note_of r.notes ≡ noted → IsProcessJoined kind.Rollback n k parent marks noted y (record x { side = Some (side.Rollback r) }) asks goes
-unfolding roll.is_asked roll.asked_label is_asked_in_rollback Rattle.kt_machine.specs.CallTests.rollback_label
 joined_roll_as x y r n k parent marks noted asks goes h few joins cohort notes =
     let made : part_as true r.part (note_of r.notes) no_mark ≡ new_part n true parent (is_asked_in_rollback y.calls) noted no_mark =
     ap (λ (f : ℕ → Option ℕ). part_as true r.part f no_mark) notes ∙ made_part n k true parent noted no_mark r.part asks _ _ few joins.0 (cohort y.calls h.stands) in

@@ -7,11 +7,12 @@ use Rattle.kt_process.specs.Parts.{Part}
 use Rattle.kt_process.specs.Answers.{replies, joins}
 use Rattle.kt_process.specs.declared.actions.Action.{Action}
 use Rattle.kt_process.specs.declared.actions.Action.TheVariants.{Refuse, Join, Reply}
-use Rattle.kt_process.specs.CheckpointRules.{is_asked, asked_label, must_join, checkpoint_refusal, checkpoint_answer}
+use Rattle.kt_machine.specs.CallTests.{is_asked_in_checkpoint, checkpoint_label}
+use Rattle.kt_process.specs.CheckpointRules.{must_join, checkpoint_refusal, checkpoint_answer}
 
 -- it asks exactly its cohort
 abbrev pub AsksCheckpointCohort : List Call → Action → Type 0
-AsksCheckpointCohort calls (Join asks goes) = IsCohort asks (is_asked calls) (asked_label calls)
+AsksCheckpointCohort calls (Join asks goes) = IsCohort asks (is_asked_in_checkpoint calls) (checkpoint_label calls)
 AsksCheckpointCohort calls action = ⊥
 
 -- it joins where nothing forbids that

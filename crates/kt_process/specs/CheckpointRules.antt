@@ -3,20 +3,12 @@ use Rattle.std.specs.Prelude.{ℕ, ◌==◌, nat_le, if◌then◌else◌, Bool, 
 use Rattle.std.specs.List.{list_any}
 use Rattle.kt_base.specs.declared.words.Cause.{Cause}
 use Rattle.kt_base.specs.declared.words.Cause.TheVariants.{Busy, Down, NoSave}
-use Rattle.kt_tables.specs.Calls.{Call, on_commit, on_abort, parts, sents, receiveds}
-use Rattle.kt_tables.specs.Labels.{has_label, greatest}
+use Rattle.kt_tables.specs.Calls.{Call, parts, sents}
 use Rattle.kt_process.specs.Answers.{Answer, replies, joins}
 
 -- whether an ask of q with this label makes the process take part: it sent q a message since its last checkpoint that q had received
 unfoldable pub must_join : List Call → ℕ → ℕ → Bool
 must_join calls q label = list_any (λ x. nat_le x label) (sents q (parts calls).since)
-
--- whom it asks when it takes part, those from which it received since its last checkpoint, and with which label
-unfoldable pub is_asked : List Call → ℕ → Bool
-is_asked calls q = has_label (receiveds q (parts calls).since)
-
-unfoldable pub asked_label : List Call → ℕ → ℕ
-asked_label calls q = greatest (receiveds q (parts calls).since)
 
 -- why a process takes no checkpoint
 abbrev pub checkpoint_refusal : Option ℕ → Bool → Bool → Option Cause
@@ -32,8 +24,3 @@ checkpoint_answer None up able inst false = replies true None
 checkpoint_answer None false able inst true = replies false (Some Down)
 checkpoint_answer None true false inst true = replies false (Some NoSave)
 checkpoint_answer None true true inst true = joins
-
--- the call of a decision
-abbrev pub checkpoint_call_of_decision : Bool → Call
-checkpoint_call_of_decision true = on_commit
-checkpoint_call_of_decision false = on_abort

@@ -7,11 +7,12 @@ use Rattle.kt_process.specs.Answers.{replies, joins}
 use Rattle.kt_process.specs.declared.actions.Action.{Action}
 use Rattle.kt_process.specs.declared.actions.Action.TheVariants.{Refuse, Join, Reply}
 use Rattle.kt_process.specs.RollingSides.{RollSide}
-use Rattle.kt_process.specs.RollbackRules.{is_asked, asked_label, must_join, rollback_refusal, rollback_answer}
+use Rattle.kt_machine.specs.CallTests.{is_asked_in_rollback, rollback_label}
+use Rattle.kt_process.specs.RollbackRules.{must_join, rollback_refusal, rollback_answer}
 
 -- it asks exactly its cohort
 abbrev pub AsksRollbackCohort : List Call → Action → Type 0
-AsksRollbackCohort calls (Join asks goes) = IsCohort asks (is_asked calls) (asked_label calls)
+AsksRollbackCohort calls (Join asks goes) = IsCohort asks (is_asked_in_rollback calls) (rollback_label calls)
 AsksRollbackCohort calls action = ⊥
 
 -- it joins where nothing forbids that

@@ -3,20 +3,12 @@ use Rattle.std.specs.Prelude.{ℕ, ◌==◌, nat_lt, if◌then◌else◌, Bool, 
 use Rattle.std.specs.List.{list_any}
 use Rattle.kt_base.specs.declared.words.Cause.{Cause}
 use Rattle.kt_base.specs.declared.words.Cause.TheVariants.{Busy}
-use Rattle.kt_tables.specs.Calls.{Call, on_rollback, parts, sents, receiveds}
-use Rattle.kt_tables.specs.Labels.{has_label, greatest}
+use Rattle.kt_tables.specs.Calls.{Call, on_rollback, parts, receiveds}
 use Rattle.kt_process.specs.Answers.{Answer, replies, joins}
 
 -- whether an ask of q with this label makes the process take part: it received a message of q since its last checkpoint that q undoes
 unfoldable pub must_join : List Call → ℕ → ℕ → Bool
 must_join calls q label = list_any (λ x. nat_lt label x) (receiveds q (parts calls).since)
-
--- whom it asks when it takes part, those to which it sent since its last checkpoint, and with which label: the last one sent before that
-unfoldable pub is_asked : List Call → ℕ → Bool
-is_asked calls q = has_label (sents q (parts calls).since)
-
-unfoldable pub asked_label : List Call → ℕ → ℕ
-asked_label calls q = greatest (sents q (parts calls).before)
 
 -- why a process doesn't roll back: it may be down
 abbrev pub rollback_refusal : Option ℕ → Option Cause

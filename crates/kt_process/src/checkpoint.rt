@@ -9,7 +9,8 @@ ghost use Rattle.kt_process.specs.PartRules.{after_reply, reply_action, settle_a
 ghost use Rattle.kt_process.specs.Joins.{Joins};
 ghost use Rattle.kt_process.specs.Replies.{IsReplyTo};
 ghost use Rattle.kt_process.specs.Counts.{counts_of, counts_at_reply, counts_if_joined, no_parcel, one_reply, decisions_to};
-ghost use Rattle.kt_process.specs.CheckpointRules.{checkpoint_refusal, checkpoint_call_of_decision, must_join};
+ghost use Rattle.kt_machine.specs.CallTests.{call_of_decision};
+ghost use Rattle.kt_process.specs.CheckpointRules.{checkpoint_refusal, must_join};
 ghost use Rattle.kt_process.specs.CheckpointActions.{AsksCheckpointCohort, IsCheckpointStart, IsCheckpointAnswer};
 
 use crate::actions::Action;
@@ -171,7 +172,7 @@ pub fn on_decide(tables: &mut Tables, side: Side, commit: bool) -> Action
     requires { tables.old.is_tentative ≡ true }
     ensures processes { tables.new.processes ≡ tables.old.processes }
     ensures tentative { tables.new.is_tentative ≡ false }
-    ensures stands { (calls : List Call) → TablesStandFor tables.old calls → TablesStandFor tables.new (calls ++ checkpoint_call_of_decision commit ∷ []) }
+    ensures stands { (calls : List Call) → TablesStandFor tables.old calls → TablesStandFor tables.new (calls ++ call_of_decision commit ∷ []) }
     ensures last_out { tables.new.last_out ≡ tables.old.last_out }
     ensures action { result ≡ settle_action side commit }
     ensures counts { counts_of result ≡ decisions_to side.asked }

@@ -6,7 +6,7 @@ use Rattle.kt_tables.proofs.Cohorts.{cohort_passes}
 use Rattle.kt_process.specs.Joins.{Joins}
 use Rattle.kt_process.specs.Parts.{Part}
 use Rattle.kt_process.specs.declared.actions.Action.{Action}
-use Rattle.kt_process.specs.RollbackRules.{is_asked, asked_label}
+use Rattle.kt_machine.specs.CallTests.{is_asked_in_rollback, rollback_label}
 use Rattle.kt_process.specs.RollbackActions.{AsksRollbackCohort}
 use Rattle.kt_process.proofs.rollback.join.Goals as goal
 
@@ -17,10 +17,10 @@ returns-clause-joins c =
     (c.join-part.ensures.joins n (subst (λ (l : List (ℕ × ℕ)). All (λ ask. ask.0 < n) l) (sym c.new-2.ensures) c.in_ok-pairs.ensures.within))
 
 pub returns-clause-cohort : goal.returns-clause-cohort
-unfolding is_asked asked_label
+unfolding is_asked_in_rollback rollback_label
 returns-clause-cohort c = λ calls h.
     subst (λ (x : Action). AsksRollbackCohort calls x) (sym c.join-part.ensures.action)
-    (subst (λ (l : List (ℕ × ℕ)). IsCohort l (is_asked calls) (asked_label calls)) (sym c.new-2.ensures) (c.in_ok-pairs.ensures.cohort calls h))
+    (subst (λ (l : List (ℕ × ℕ)). IsCohort l (is_asked_in_rollback calls) (rollback_label calls)) (sym c.new-2.ensures) (c.in_ok-pairs.ensures.cohort calls h))
 
 pub returns-clause-asked : goal.returns-clause-asked
 returns-clause-asked c q asked =
