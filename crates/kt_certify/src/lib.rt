@@ -1,9 +1,10 @@
-//! The certificates of a log, by one pass over its rows; laws say what they are, and when they pass.
+//! The certificates of a log, made by one pass over its rows. What they are, and when they pass, laws of kt_meaning
+//! say.
 //!
 //! **What to change where:** a list of rows `certifying.rt`, those of a run `runs.rt`, a text `streaming.rt`; row by
-//! row `pass.rt`, one instance `instance.rt`; a member's chain `chains.rt`; `fault.rt`; what certificates mean is
-//! `specs/Meant`; `laws.rt`, and in their words how a chain is made `specs/Making`, one pass `specs/OnePass`, what a
-//! walk knows of links `specs/Arriving`.
+//! row `pass.rt`, one instance `instance.rt`; a member's chain `chains.rt`; faults of a text `fault.rt`; laws
+//! `laws.rt`, and in their words one pass `specs/OnePass`, what a walk knows of links `specs/Arriving`. What
+//! certificates mean, how a chain is made, and why a log has none: `Meant`, `Making` and `Fitness` of kt_meaning.
 #![tactic(auto)]
 
 mod certifying;

@@ -1,7 +1,8 @@
-//! Certificates: for each decided instance, who took part and the chain of messages that shows why.
+//! The text of certificates, which say for each decided instance who took part, and the chain of messages that shows
+//! why.
 //!
-//! **What to change where:** `certificate.rt`; one record `records.rt`; a text `reading.rt`, `fault.rt`;
-//! `writing.rt`; `laws.rt`.
+//! **What to change where:** one record `records.rt`; a text `reading.rt`, faults `fault.rt`; `writing.rt`; laws
+//! `laws.rt`. A certificate itself is `Certificate` of kt_spacetime.
 #![tactic(auto)]
 
 mod fault;

@@ -1,19 +1,14 @@
-//! What is told of the checker's answers: facts of the log and its certificates, each named exactly.
+//! A log judged by certificates that are named, or else by those that it means, and what is told of the answer: facts
+//! of the log and its certificates, each named exactly.
 //!
 //! A fact is a value, and `specs/` says when it is so, by the definitions that the answer itself cites. Its words are a
-//! `Display` alone, and the gate's programs print each.
-//!
-//! **What to change where:** the values that are told, and which of them, `explanation.rt`, and when each is so
-//! `specs/Told`; their lines `lines.rt`; rows that are sought `finding.rt` (`specs/Finding`); a row that breaks a
-//! rule `bad_row.rt`; what the rules demand of it, one by one, `breach/demands.rt` (`specs/Demands`); what is against a
-//! demand `breach.rt` (`specs/Breaches`), found demand by demand in `breach/before.rt` and `breach/deliveries.rt`; what
-//! undid a message `undoing.rt`; what is in transit `waiting.rt`; certificates beside those that the log means
-//! `compared.rt` (`specs/Compared`); the orphan `orphans.rt`; after a yes `judged.rt` (`specs/Judged`); `words.rt`.
-//!
-//! A log judged by certificates that are named, or else by those that it means; and whether it came to rest.
+//! `Display` alone, and the gate's programs print each. What is told of rows of the log is found by kt_histories.
 //!
 //! **What to change where:** what is answered `answer.rt`; by what, and when each answer comes `judging.rt`
-//! (`specs/Judging`); why a log means no certificates `unfit.rt`; on which lines of a text its records begin `numbered.rt`.
+//! (`specs/Judging`); why a log means no certificates `unfit.rt`. The values that are told, and which of them,
+//! `explanation.rt`, and when each is so `specs/Told`; their lines `lines.rt`; on which lines of a text its records
+//! begin `numbered.rt`; a row that breaks a rule `bad_row.rt`; certificates beside those that the log means
+//! `compared.rt` (`specs/Compared`); the orphan `orphans.rt`; after a yes `judged.rt` (`specs/Judged`).
 #![tactic(auto)]
 
 mod answer;

@@ -1,4 +1,4 @@
--- What each step does to what is seen, and runs of steps. Each rule is that of kt_protocol's machine, by labels.
+-- What each step does to what is seen, and runs of steps. Each rule is that of kt_protocol's late machine, by labels.
 use Rattle.std.specs.Prelude.{ℕ, ◌+◌, ◌==◌, ◌&&◌, not, nat_lt, if◌then◌else◌, Bool, true, false, Some, None, List, [], ◌∷◌}
 use Rattle.kt_base.specs.declared.words.Cause.TheVariants.{Busy, Down}
 use Rattle.kt_base.specs.declared.words.Verb.TheVariants as verb

@@ -1,13 +1,16 @@
 //! What one has to believe of a log, with no code: definitions, their values on worked logs, and the laws between them.
 //!
-//! **In reading order:** what is known after some rows `specs/Past`; cuts and orphans `Cuts`; least sets `Least`; what a
-//! decision takes `Decided`; that a log follows its plan `Follows`; the nine rules `Legal`; all that is promised of a log
-//! `Promised`. Then chains `Chains`, when a certificate passes `Passing`, which answer of a checker is right `Answers`,
-//! what a yes means `Soundness`; which certificates a log means `Certificates`, `Meant`; why a log has none `Fitness`.
-//! Rows by names `Names`.
+//! **In reading order:** what is known after some rows `specs/Past`; that a history has a deed, and the nine rules,
+//! `Legal`; cuts and orphans `Cuts`; least sets `Least`; what a decision takes `Decided`; that a log follows its plan
+//! `Follows`; all that is promised of a log `Promised`. Then members and chains `Chains`; who was unwilling
+//! `Unwilling`; when a certificate passes `Passing`, which answer of a checker is right `Answers`, what a yes means
+//! `Soundness`. Which certificates a log means `Linking`, `Certificates`, `Making`, `Meant`, `Decisions`; why it has
+//! none `Fitness`; when they pass `Just`, `Throughout`, `DecidedWell`. Rows by names `Names`.
 //!
-//! **What to change where:** a definition `specs/`, and its values in `worked.rt`, `worked_by_name.rt`; laws of logs
-//! `laws.rt`, of the checker's answer `answers.rt`, of certificates `certificates.rt`, `promised.rt`, of names `names.rt`.
+//! **What to change where:** a definition in its file of `specs/`, and its values in `worked.rt` (`specs/WorkedRows`),
+//! by names `worked_by_name.rt` (`specs/WorkedNames`); laws of logs `laws.rt`, in words of `specs/Messages` and
+//! `specs/InCheckpoint`; of the checker's answer `answers.rt`; of certificates `certificates.rt`, and of logs of which
+//! all is promised `promised.rt`; of names `names.rt`.
 #![tactic(auto)]
 
 mod answers;

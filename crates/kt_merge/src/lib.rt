@@ -1,16 +1,11 @@
-//! One log of many processes' logs, in one pass: rows sorted by clock, then by process, with numbers for names.
+//! One log of many processes' logs, in one pass: rows sorted by clock, then by process, with numbers for names. And the
+//! text of a part, which is the log that one process writes by itself.
 //!
-//! **What to change where:** which row comes next `heads.rt`; numbers for names `numbers.rt`, `tables.rt`; faults `fault.rt`; how a row is
-//! written `rows.rt`; the parts `parts.rt`; where a row stands that comes too late `giver.rt`; the pass `merging.rt`; `laws.rt`.
-//!
-//! Parts merged to the text of their log, and what is told of parts that have none.
-//!
-//! **What to change where:** the text, and which record is told of, `merging.rt`; its words `told.rt`.
-//!
-//! The text of a part, which is the log that one process writes by itself: read, row by row or whole, and written.
-//!
-//! **What to change where:** how a row is spelled `rows.rt`, how a name is `names.rt`; faults `fault.rt`; `reading.rt`,
-//! `writing.rt`; `laws.rt`.
+//! **What to change where:** a part: how a row is spelled `part_rows.rt`, how a name is `names.rt`; `reading.rt`,
+//! `writing.rt`; faults `part_fault.rt`; laws `part_laws.rt`. The merge: the parts `parts.rt`; which row comes next
+//! `heads.rt`; numbers for names `numbers.rt`, `tables.rt`; how a row is written `rows.rt`; the pass `merging.rt`;
+//! faults `fault.rt`; laws `laws.rt`. Its text, and which record is told of, `text.rt`; in which words `told.rt`; where
+//! the row stands that comes too late `giver.rt`.
 #![tactic(auto)]
 
 mod fault;

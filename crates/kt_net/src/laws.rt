@@ -14,7 +14,7 @@ ghost use Rattle.kt_net.specs.Clocks.{ClockedRow, clocked_run, opening_clocked, 
 ghost use Rattle.kt_net.specs.Erasing.{name_in, erased_node, erased_parcels, rows_from};
 
 /// For every number of nodes, every label that they count on from, and every list of steps: a net is what is seen of
-/// kt_protocol's machine after the same steps, by the names that its log gives; and its rows are that log.
+/// kt_protocol's late machine after the same steps, by the names that its log gives; and its rows are that log.
 pub fn nets_are_runs()
     ensures nodes { (n first : ℕ) (steps : List ProtocolStep) (p : ℕ) →
         (net_run (opening_net n first) steps).nodes p
@@ -47,7 +47,7 @@ pub fn logs_of_nets()
 }
 
 /// At each step of a net the acts of the node that steps are those of the process that steps, by what is seen of
-/// kt_protocol's machine: so what is due to an object of a run is due to one of a net.
+/// kt_protocol's late machine: so what is due to an object of a run is due to one of a net.
 pub fn acts_of_nets()
     ensures same { (n first : ℕ) (steps : List ProtocolStep) (x : ProtocolStep) →
         net_acts (net_run (opening_net n first) steps) x ≡ seen_acts (seen first (late_run (opening n) steps)) x }

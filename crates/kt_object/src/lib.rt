@@ -1,11 +1,10 @@
-//! Recoverable objects, the slots that they hold, and the saved states of one process.
+//! Recoverable objects, the slots that they hold, the saved states of one process, and what each process holds of
+//! these.
 //!
-//! **What to change where:** the interface `objects.rt`; kinds `sums.rt`, `lasts.rt`, `tails.rt`; saved bytes
-//! `numbers.rt`; `slots.rt`; `depots.rt`.
-//!
-//! What each process holds: its object, spare objects and saved states; and how the acts that a step tells are done on them.
-//!
-//! **What to change where:** a holding `held.rt`; the objects of a run `casts.rt`; `faults.rt`.
+//! **What to change where:** the interface `objects.rt`, its faults `faults.rt`; kinds `sums.rt`, `lasts.rt`,
+//! `tails.rt`; saved bytes `numbers.rt`; slots `slots.rt`; saved states `depots.rt`; what a process holds (object,
+//! spares, saved states), and how the acts that a step tells are done on it `held.rt`, its faults `held_faults.rt`; the
+//! objects of a run `casts.rt`; laws `laws.rt`.
 #![tactic(auto)]
 
 mod casts;

@@ -1,4 +1,4 @@
-//! Laws of the certificates of runs, and of logs that are as those of runs: each function has nothing to run, and its
+//! Laws of the certificates of runs: each function has nothing to run, and its
 //! contract is the law. Those that are called in it are laws that its proof stands on.
 
 ghost use Rattle.std.specs.Prelude.{◌≡◌, ◌<◌, ℕ, true, Some, None, List, take, slice_get};

@@ -1,8 +1,8 @@
 //! The log of a run, and what is said of one: its types, with how each is written.
 //!
 //! **What to change where:** rows `event.rt`; the list `log.rt`; sends and receives of a history `deeds.rt`; rules by
-//! number `rules.rt`; certificates `certificate.rt`; answers `verdict.rt`; why a log has no certificates `unfit.rt`; rows
-//! by names `names.rt`, `named_rows.rt`.
+//! number `rules.rt`; certificates `certificate.rt`; answers `verdict.rt`; why a log has no certificates `unfit.rt`;
+//! rows by names `names.rt`, `named_rows.rt`.
 #![tactic(auto)]
 
 mod certificate;

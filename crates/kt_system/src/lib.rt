@@ -3,12 +3,9 @@
 //! **What to change where:** what it holds `system.rt`; what is read `system/reads.rt`, who takes next
 //! `system/takes.rt`, how many takes there are `system/counts.rt`; one thing each `system/leaves.rt`, of one process
 //! `system/processes.rt`; messages `system/messages.rt`; commands and asks `system/commands.rt`; joining and closing
-//! `system/instances.rt`; any parcel `system/replies.rt`; what a step asks for and keeps `specs/Keeps`.
-//!
-//! Channels changed at the beginning and at the end of an instance: asks and decisions put, kept parcels let go or held
-//! again, and room made for that beforehand.
-//!
-//! **What to change where:** asks and decisions `puts.rt`; kept parcels `kept.rt`; room `rooms.rt`.
+//! `system/instances.rt`; any parcel `system/replies.rt`, one that asks nothing of an object `system/quiet.rt`; what a
+//! step asks for and keeps `specs/Keeps`. Channels at the beginning and the end of an instance: asks and decisions
+//! `puts.rt`; kept parcels, let go or held again, `kept.rt`; room, which is made before anything changes, `rooms.rt`.
 #![tactic(auto)]
 
 mod kept;

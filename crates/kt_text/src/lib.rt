@@ -1,11 +1,9 @@
-//! What the texts of logs and certificates share: fields, records that are read, records that are written.
+//! What the texts of logs and certificates share: fields, records that are read, records that are written; and texts of
+//! others as they are shown to a person.
 //!
-//! **What to change where:** `fields.rt`; the next record `records.rt`; writing, and a number gathered, `pieces.rt`.
-//!
-//! Texts of others as they are shown to a person: at most so many bytes, where a record stands, and what it is to be.
-//!
-//! **What to change where:** which bytes are shown, and how, `shown.rt`; what is read by a name `input.rt`; at which line a
-//! record stands `places.rt`; what records are to be `forms.rt`.
+//! **What to change where:** fields `fields.rt`; the next record `records.rt`; lines `lines.rt`; writing, and a number
+//! gathered, `pieces.rt`; faults `fault.rt`. Which bytes are shown, at most so many, and how, `shown.rt`; what is read
+//! by a name `input.rt`; at which line a record stands `places.rt`; what records are to be `forms.rt`.
 #![tactic(auto)]
 
 mod fault;

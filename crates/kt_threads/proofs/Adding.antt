@@ -5,7 +5,7 @@ use Rattle.std.proofs.lemmas.Bool.Decides.{nat_tests}
 use mathlib.Core.List.{IsPrefix}
 use prog.Atomic.{either}
 use Rattle.logbook.specs.Pages.{Cell, cell, keeps, no_nib, step, Moves, Goes}
-use Rattle.kt_threads.specs.declared.errand.Entry.{Entry}
+use Rattle.kt_threads.specs.declared.asked.Entry.{Entry}
 use Rattle.kt_threads.specs.BookRules.{IsKept, Adds}
 use Rattle.kt_threads.proofs.Fronts.{prefix_whole}
 

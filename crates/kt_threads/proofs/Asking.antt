@@ -11,7 +11,7 @@ use Rattle.kt_plan.specs.declared.steps.Look.TheVariants as look
 use Rattle.kt_run.specs.Objects.{Belongings}
 use Rattle.kt_threads.specs.Errands.{are_no_acts, body_for, errand_of, errands_at, is_no_errand}
 use Rattle.kt_threads.specs.Workers.{IsServed, AreServed}
-use Rattle.kt_threads.specs.declared.errand.Errand.{Errand}
+use Rattle.kt_threads.specs.declared.asked.Errand.{Errand}
 use Rattle.kt_threads.specs.declared.state.Made.{Made}
 
 -- the acts that a step told were done to what its process had; and where the step asked for a body, it was given what the

@@ -11,7 +11,7 @@ use Rattle.kt_threads.specs.Histories as histories
 use Rattle.kt_threads.specs.Histories.{AreTheirs}
 use Rattle.kt_threads.specs.Moves.{move_of}
 use Rattle.kt_threads.specs.Workers.{AreServed, AllServed}
-use Rattle.kt_threads.specs.declared.errand.Errand.{Errand}
+use Rattle.kt_threads.specs.declared.asked.Errand.{Errand}
 use Rattle.kt_threads.specs.declared.state.Made.{Made}
 use Rattle.kt_threads.specs.WorldLaws.{WorldLaws}
 use Rattle.kt_threads.proofs.Moving.{run_of, served_of, nothing_tentative}

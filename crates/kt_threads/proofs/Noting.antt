@@ -5,7 +5,7 @@ use Rattle.std.proofs.lemmas.Bool.{eqb-true, eqb-false}
 use Rattle.std.proofs.lemmas.List.{map-append, map-set, length-map, length-set, get_or-map, get_or-set_same, get_or-set_other}
 use Rattle.std.proofs.lemmas.List.Elements.{filter-append}
 use Rattle.kt_threads.specs.Books.{DoneBy, entry, errands_by}
-use Rattle.kt_threads.specs.declared.errand.Entry.{Entry}
+use Rattle.kt_threads.specs.declared.asked.Entry.{Entry}
 use Rattle.kt_promises.specs.Runs.{Move}
 use Rattle.kt_promises.specs.Steps.{process_of_step}
 use Rattle.kt_plan.specs.declared.steps.Step.{Step}
@@ -15,7 +15,7 @@ use Rattle.kt_threads.specs.Histories.{AreTheirs, AreTold, WorldHistory, made_by
 use Rattle.kt_threads.specs.Moves.{move_of}
 use Rattle.kt_threads.specs.Noted.{AreAskedBy, AreListed, AreNoted, AreToldBy, IsNotedBy, made_steps}
 use Rattle.kt_threads.specs.Turns.{IsMadeQuietly}
-use Rattle.kt_threads.specs.declared.errand.Errand.{Errand}
+use Rattle.kt_threads.specs.declared.asked.Errand.{Errand}
 use Rattle.kt_threads.specs.declared.state.Made.{Made}
 
 -- the list of a process goes on

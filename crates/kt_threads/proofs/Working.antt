@@ -15,7 +15,7 @@ use Rattle.kt_plan.specs.declared.steps.Look.TheVariants as look
 use Rattle.kt_run.specs.Objects.{Belongings, belongings_of, has_of, AreLeft}
 use Rattle.kt_threads.specs.Errands.{errand_of}
 use Rattle.kt_threads.specs.Workers.{IsServed, AreServed, KeepsServing, AllServed}
-use Rattle.kt_threads.specs.declared.errand.Errand.{Errand}
+use Rattle.kt_threads.specs.declared.asked.Errand.{Errand}
 use Rattle.kt_threads.specs.declared.worker.Worker.{Worker}
 use Rattle.kt_threads.specs.declared.state.Made.{Made}
 use Rattle.kt_threads.proofs.Asking.{noted_body}

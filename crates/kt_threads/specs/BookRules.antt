@@ -1,7 +1,7 @@
 -- The rule of the book, and what its steps tell.
 use Rattle.std.specs.Prelude.{ℕ, ◌≡◌, ◌==◌, true, List, [], ◌∷◌, ◌++◌, length, MatchBool}
 use Rattle.logbook.specs.Pages.{Cell, Step, View, Book, Named}
-use Rattle.kt_threads.specs.declared.errand.Entry.{Entry}
+use Rattle.kt_threads.specs.declared.asked.Entry.{Entry}
 
 -- the first word is the length of the history. A book has two words, of which this one leaves the second at 0
 pub record IsKept (cells : List Cell) (log : List Entry) : Type 0 where

@@ -1,7 +1,7 @@
 -- Whose errands stand in a history.
 use Rattle.std.specs.Prelude.{◌≡◌, ◌<◌, ◌==◌, ℕ, List, [], ◌∷◌, ◌++◌, filter, length, map, slice_index_or}
-use Rattle.kt_threads.specs.declared.errand.Entry.{Entry}
-use Rattle.kt_threads.specs.declared.errand.Errand.{Errand}
+use Rattle.kt_threads.specs.declared.asked.Entry.{Entry}
+use Rattle.kt_threads.specs.declared.asked.Errand.{Errand}
 
 -- the errands of one process, in order
 abbrev pub errands_by : ℕ → List Entry → List Errand

@@ -11,7 +11,7 @@ use Rattle.kt_promises.specs.Looks as run_looks
 use Rattle.kt_promises.specs.Progress.{Progress, progress_at_start}
 use Rattle.kt_run.specs.Runs.{IsRun}
 use Rattle.kt_spacetime.specs.declared.event.Event.{Event}
-use Rattle.kt_threads.specs.declared.errand.Errand.{Errand}
+use Rattle.kt_threads.specs.declared.asked.Errand.{Errand}
 use Rattle.kt_threads.specs.declared.faults.LiveFault.{LiveFault}
 use Rattle.kt_threads.specs.declared.state.Made.{Made}
 use Rattle.kt_threads.specs.Errands.{errands_of}

@@ -1,7 +1,7 @@
 -- What is noted of steps: of processes, in a list for each, and of all of them, in one list.
 use Rattle.std.specs.Prelude.{◌≡◌, ◌<◌, ◌==◌, ℕ, List, [], ◌∷◌, ◌++◌, Option, IfSome, length, map, slice_index_or, if◌then◌else◌}
 use Rattle.kt_threads.specs.Books.{errands_by}
-use Rattle.kt_threads.specs.declared.errand.Entry.{Entry}
+use Rattle.kt_threads.specs.declared.asked.Entry.{Entry}
 use Rattle.kt_plan.specs.declared.steps.Step.{Step}
 use Rattle.kt_plan.specs.declared.steps.Told.{Told}
 use Rattle.kt_threads.specs.Errands.{errands_of}

@@ -10,7 +10,7 @@ use Rattle.kt_object.specs.Refusals.{held_objects}
 use Rattle.kt_run.specs.Objects.{Belongings, belongings_of, AreLeft}
 use Rattle.kt_run.specs.Rejections.{MayReject}
 use Rattle.kt_threads.specs.declared.worker.Worker.{Worker}
-use Rattle.kt_threads.specs.declared.errand.Errand.{Errand}
+use Rattle.kt_threads.specs.declared.asked.Errand.{Errand}
 use Rattle.kt_threads.specs.declared.faults.LiveFault.TheVariants.{Object}
 
 -- if all acts could be done: where of these objects all but the first ones were left as a process's spares, so they are later

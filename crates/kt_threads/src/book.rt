@@ -4,7 +4,7 @@ ghost use Rattle.std.specs.Prelude.{◌≡◌, ◌+◌, ◌==◌, ◌<◌, ◌^�
 ghost use mathlib.Core.List.{IsPrefix};
 ghost use Rattle.kt_threads.specs.BookRules.{head_of};
 
-use crate::errand::Entry;
+use crate::asked::Entry;
 use logbook::{Gain, Offer, Plain, Play, Rule, Seen, Start, Word};
 use std::marker::{Brand, Model, PhantomData};
 
@@ -133,7 +133,7 @@ pub(crate) struct Front<J: Naming> {
 
 impl<J: Naming> Model for Front<J> {
     ghost use Rattle.std.specs.Prelude.{◌≡◌, List, length};
-    ghost use Rattle.kt_threads.specs.declared.errand.Entry.{Entry};
+    ghost use Rattle.kt_threads.specs.declared.asked.Entry.{Entry};
 
     ghost Value = { List Entry };
 

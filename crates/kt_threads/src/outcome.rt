@@ -3,7 +3,7 @@
 ghost use Rattle.std.specs.List.{AllZip};
 ghost use Rattle.std.specs.Prelude.{◌≡◌, ◌≢◌, ◌⊎◌, [], ℕ, List, length, true, false, None, Some, All, map, option_map, slice_index, slice_index_or, OnOk, IfOk, IfErr, IsTrue, ◌↔◌};
 ghost use Rattle.kt_core.specs.Worlds.{IsWorldAtRest};
-ghost use Rattle.kt_threads.specs.declared.errand.Errand.{Errand};
+ghost use Rattle.kt_threads.specs.declared.asked.Errand.{Errand};
 ghost use Rattle.kt_object.specs.Holdings.{Content, content};
 ghost use Rattle.kt_object.specs.Refusals.{IsLeastRefused};
 ghost use Rattle.kt_meaning.specs.Follows.{FollowsPlan};

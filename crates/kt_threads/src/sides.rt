@@ -4,7 +4,7 @@ ghost use Rattle.std.specs.Prelude.{◌≡◌, ◌++◌, ◌∷◌, [], true, fa
 ghost use Rattle.kt_threads.specs.Books.{entry, errands_by};
 
 use crate::book::{Book, Front, Naming, Opened};
-use crate::errand::{Entry, Errand};
+use crate::asked::{Entry, Errand};
 use kt_base::ProcNo;
 use std::marker::Model;
 use std::snapshot::Snapshot;
@@ -22,7 +22,7 @@ pub struct Recorder<J: Naming> {
 
 impl<J: Naming> Model for Recorder<J> {
     ghost use Rattle.std.specs.Prelude.{List};
-    ghost use Rattle.kt_threads.specs.declared.errand.Entry.{Entry};
+    ghost use Rattle.kt_threads.specs.declared.asked.Entry.{Entry};
     ghost use Rattle.kt_threads.specs.Books.{AreCounted};
 
     ghost Value = { List Entry };
@@ -89,7 +89,7 @@ pub struct Receipt<J: Naming> {
 }
 
 impl<J: Naming> Model for Receipt<J> {
-    ghost use Rattle.kt_threads.specs.declared.errand.Entry.{Entry};
+    ghost use Rattle.kt_threads.specs.declared.asked.Entry.{Entry};
     ghost use Rattle.kt_threads.specs.Books.{IsLast};
 
     ghost Value = { Entry };

@@ -11,7 +11,7 @@ ghost use Rattle.kt_threads.specs.Workers.{KeepsServing};
 
 use crate::board::{Board, Next};
 use crate::book::Naming;
-use crate::errand::Errand;
+use crate::asked::Errand;
 use crate::errands::errand_for;
 use crate::faults::LiveFault;
 use crate::sides::{Done, Receipt, Recorder};

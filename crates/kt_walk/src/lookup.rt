@@ -14,7 +14,7 @@ ghost use Rattle.kt_walk.specs.TraceEntries.{entries_of, entries_of_all, number_
 ghost use Rattle.kt_walk.specs.Keeping.{kept_trace, held_of};
 
 use crate::pair::Pair;
-use crate::pairs::{Pairs, index_of};
+use crate::all_pairs::{Pairs, index_of};
 use crate::queue::Arrival;
 use crate::received_from::Undone;
 use kt_base::{MsgNo, ProcNo};

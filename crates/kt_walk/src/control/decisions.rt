@@ -5,7 +5,7 @@ ghost use Rattle.kt_spacetime.specs.declared.event.Event.{Event};
 ghost use Rattle.kt_spacetime.specs.declared.event.Event.TheVariants as event;
 
 use super::ControlState;
-use crate::pairs::Pairs;
+use crate::all_pairs::Pairs;
 use kt_base::{InstNo, Kind, ProcNo};
 use kt_rules::instances::{Instance, decide};
 

@@ -1,5 +1,5 @@
 use Rattle.std.proofs.Common.{◌∙◌, ◌++◌, [], ◌∷◌, ap}
-use Rattle.kt_threads.specs.declared.errand.Entry.{Entry}
+use Rattle.kt_threads.specs.declared.asked.Entry.{Entry}
 use Rattle.kt_promises.specs.Steps.{process_of_step}
 use Rattle.kt_threads.specs.declared.state.Made.{Made}
 use Rattle.kt_threads.proofs.Noting.{asked_next}

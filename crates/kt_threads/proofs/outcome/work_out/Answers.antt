@@ -3,7 +3,7 @@ use Rattle.std.specs.Prelude.{Result, Err, IfErr}
 use Rattle.std.proofs.lemmas.List.{length-map}
 use Rattle.std.proofs.lemmas.Result.{err_from_is_err_and}
 use Rattle.kt_threads.specs.Books.{DoneBy, errands_by}
-use Rattle.kt_threads.specs.declared.errand.Errand.{Errand}
+use Rattle.kt_threads.specs.declared.asked.Errand.{Errand}
 use Rattle.kt_object.specs.Holdings.{content}
 use Rattle.kt_threads.proofs.Noting.{theirs_of}
 use Rattle.kt_threads.specs.Faults.{live_stopped_at}

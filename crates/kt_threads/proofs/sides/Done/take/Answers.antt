@@ -1,6 +1,6 @@
 use Rattle.std.proofs.Common.{rules, ℕ, ◌≡◌, ◌∙◌, ◌+◌, [], ◌∷◌, ◌++◌, List, ap, sym, subst}
-use Rattle.kt_threads.specs.declared.errand.Entry.{Entry}
-use Rattle.kt_threads.specs.declared.errand.Errand.{Errand}
+use Rattle.kt_threads.specs.declared.asked.Entry.{Entry}
+use Rattle.kt_threads.specs.declared.asked.Errand.{Errand}
 use Rattle.kt_threads.specs.Books.{DoneBy, errands_by}
 use Rattle.kt_threads.proofs.Counting.{one_more}
 use Rattle.kt_threads.proofs.sides.Done.take.Goals as goal

@@ -1,6 +1,6 @@
 use Rattle.std.proofs.Common.{◌≡◌, ◌∙◌, ◌<◌, ℕ, List, arith, slice_index_or, sym, subst}
 use Rattle.std.proofs.lemmas.Bool.{eqb-true}
-use Rattle.kt_threads.specs.declared.errand.Entry.{Entry}
+use Rattle.kt_threads.specs.declared.asked.Entry.{Entry}
 use Rattle.kt_threads.specs.Books.{DoneBy, errands_by}
 use Rattle.kt_threads.proofs.Counting.{as_many}
 use Rattle.kt_threads.proofs.sides.Recorder.agrees.Goals as goal

@@ -1,6 +1,6 @@
 use Rattle.std.proofs.Common.{rules, ◌≡◌, ◌∙◌, ◌++◌, [], ◌∷◌, Some, ap, refl, true}
 use Rattle.kt_threads.specs.Books.{DoneBy}
-use Rattle.kt_threads.specs.declared.errand.Entry.{Entry}
+use Rattle.kt_threads.specs.declared.asked.Entry.{Entry}
 use Rattle.kt_object.specs.Holdings.{content}
 use Rattle.kt_threads.specs.Faults.{live_of_act}
 use Rattle.kt_threads.specs.declared.faults.LiveFault.TheVariants as live
