@@ -6,8 +6,8 @@ ghost use Rattle.kt_promises.specs.Steps.{process_of_step};
 ghost use Rattle.kt_threads.specs.Noted.{AreAskedBy};
 ghost use Rattle.kt_threads.specs.Errands.{body_for, are_no_acts, errand_of, is_no_errand};
 
-use crate::book::Naming;
 use crate::asked::Errand;
+use crate::book::Naming;
 use crate::sides::{Done, Receipt, Recorder};
 use crate::state::Acted;
 use kt_base::{Memory, ProcNo};

@@ -3,8 +3,8 @@
 ghost use Rattle.std.specs.Prelude.{◌≡◌, ◌++◌, ◌∷◌, [], true, false, IfNone, IfSome};
 ghost use Rattle.kt_threads.specs.Books.{entry, errands_by};
 
-use crate::book::{Book, Front, Naming, Opened};
 use crate::asked::{Entry, Errand};
+use crate::book::{Book, Front, Naming, Opened};
 use kt_base::ProcNo;
 use std::marker::Model;
 use std::snapshot::Snapshot;

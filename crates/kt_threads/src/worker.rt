@@ -9,9 +9,9 @@ ghost use Rattle.kt_promises.specs.Steps.{process_of_step};
 ghost use Rattle.kt_threads.specs.Errands.{errand_of};
 ghost use Rattle.kt_threads.specs.Workers.{KeepsServing};
 
+use crate::asked::Errand;
 use crate::board::{Board, Next};
 use crate::book::Naming;
-use crate::asked::Errand;
 use crate::errands::errand_for;
 use crate::faults::LiveFault;
 use crate::sides::{Done, Receipt, Recorder};

@@ -13,8 +13,8 @@ ghost use Rattle.kt_walk.specs.Pairs.{PairState, ShowsPairs};
 ghost use Rattle.kt_walk.specs.TraceEntries.{entries_of, entries_of_all, number_of, trace_at};
 ghost use Rattle.kt_walk.specs.Keeping.{kept_trace, held_of};
 
-use crate::pair::Pair;
 use crate::all_pairs::{Pairs, index_of};
+use crate::pair::Pair;
 use crate::queue::Arrival;
 use crate::received_from::Undone;
 use kt_base::{MsgNo, ProcNo};

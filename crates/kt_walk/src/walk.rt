@@ -19,9 +19,9 @@ ghost use Rattle.kt_walk.specs.Pairs.{PairState};
 ghost use Rattle.kt_walk.specs.Searching.{IsFoundPast};
 ghost use Rattle.kt_walk.specs.WalkOf.{WalkOf, IsFoundAt};
 
+use crate::all_pairs::Pairs;
 use crate::control::ControlState;
 use crate::in_transit::Sent;
-use crate::all_pairs::Pairs;
 use crate::queue::Arrival;
 use kt_base::{InstNo, Memory, MsgNo, ProcNo, ProcSet, RowNo};
 use kt_rules::{Cut, LegalFault, Trace, is_after};
