@@ -20,6 +20,7 @@ pub mod TransitRows
 pub mod SendsFacts
 pub mod UsedFacts
 pub mod PairsFacts
+pub mod NewPairs
 pub mod TraceFacts
 pub mod PermanentFacts
 pub mod FoundFacts

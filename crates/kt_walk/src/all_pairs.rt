@@ -1,6 +1,6 @@
 //! The messages of each pair of processes that can still matter.
 
-ghost use Rattle.std.specs.Prelude.{◌≡◌, ◌≢◌, ◌≤◌, ◌<◌, ◌+◌, ◌*◌, ◌||◌, ℕ, List, Some, true, is_some, length, map, slice_get, slice_index, OnOk, OnErr, IfOk, IfSome};
+ghost use Rattle.std.specs.Prelude.{◌≡◌, ◌≢◌, ◌≤◌, ◌<◌, ◌+◌, ◌*◌, ◌||◌, ℕ, List, Some, true, is_some, length, map, slice_get, slice_index, OnOk, OnErr, IfSome, IfNone};
 ghost use Rattle.kt_spacetime.specs.declared.event.Event.TheVariants as event;
 ghost use Rattle.kt_spacetime.specs.declared.deeds.Deed.TheVariants as deed;
 ghost use Rattle.kt_meaning.specs.Past.{Past, start, after};
@@ -14,7 +14,7 @@ ghost use Rattle.kt_walk.specs.Searching.{IsFoundPast};
 ghost use Rattle.kt_walk.specs.Arrivals.{IsByPair, ShowsReceived, RollsBack, MakesPermanent, KeepsPermanent};
 ghost use Rattle.kt_base.specs.Sets.{has};
 ghost use Rattle.kt_walk.specs.Peers.{is_in};
-ghost use Rattle.kt_walk.specs.Pairs.{PairState, received_from_of, AreInUse, AreInitialPairs, IsPairCommitted, IsFitPast, IsEachOnce, AreNotDropped, ShowsPairs};
+ghost use Rattle.kt_walk.specs.Pairs.{PairState, received_from_of, AreInUse, with_new, new_pair_state, IsPairCommitted, IsFitPast, IsEachOnce, AreNotDropped, ShowsPairs};
 
 use crate::in_transit::Sent;
 use crate::pair::Pair;
@@ -29,7 +29,7 @@ use std::marker::Model;
 /// The messages that each process has sent to each other and that can still matter.
 #[derive(Drop)]
 pub(crate) struct Pairs {
-    // By receiver and then by sender.
+    // By receiver and then by sender, up to the last one in which a message was sent.
     pub(crate) pairs: Vec<Pair>,
     // Those that have messages; others may be among them.
     pub(crate) used: Peers,
@@ -37,37 +37,43 @@ pub(crate) struct Pairs {
     resting: Peers,
 }
 
-// How many pairs there are.
-const PAIRS: usize = 4_096;
-
 impl Model for Pairs {
     ghost use Rattle.std.specs.Prelude.{List, map};
     ghost use Rattle.kt_walk.specs.Arrivals.{IsByPair};
     ghost use Rattle.kt_base.specs.Sets.{has};
     ghost use Rattle.kt_walk.specs.Peers.{is_in};
-    ghost use Rattle.kt_walk.specs.Pairs.{PairState, received_from_of, AreInUse};
+    ghost use Rattle.kt_walk.specs.Pairs.{PairState, received_from_of, AreInUse, with_new};
 
     ghost Value = { List PairState };
 
-    ghost view = { λ a. a.pairs.items };
+    ghost view = { λ a. with_new a.pairs.items };
 
-    ghost invariant = { λ a. IsByPair (map received_from_of a.pairs.items) × AreInUse a.pairs.items a.used };
+    ghost invariant = { λ a. IsByPair (map received_from_of (with_new a.pairs.items)) × AreInUse a.pairs.items a.used };
 }
 
 impl Pairs {
-    /// No messages, before the first row.
-    pub(crate) fn new(alloc: Global) -> Result<Pairs, Memory>
-        ensures { IfOk result (λ ps. ShowsPairs ps start) }
+    /// No messages, before the first row. It takes no memory.
+    pub(crate) fn new(alloc: Global) -> Pairs
+        ensures { ShowsPairs result start }
     {
-        let mut pairs = Vec::with_capacity(alloc, PAIRS)?;
-        for number in 0..ProcNo::COUNT {
-            add_initial_pairs(alloc, &mut pairs, ProcNo::nth(number))?;
-        }
-        Ok(Pairs {
-            pairs,
+        Pairs {
+            pairs: Vec::new(alloc),
             used: Peers::new(),
             resting: Peers::new(),
-        })
+        }
+    }
+
+    /// A pair; None where no message was sent yet in it or in a later one.
+    #[inline(always)]
+    pub(crate) fn pair(&self, receiver: ProcNo, sender: ProcNo) -> Option<&Pair>
+        ensures by_pair { IsByPair (map received_from_of self.now) }
+        ensures some { IfSome result (λ v. slice_get self.now (receiver * 64 + sender) ≡ Some v.now) }
+        ensures none { IfNone result (slice_get self.now (receiver * 64 + sender)
+            ≡ Some (new_pair_state receiver sender)) }
+        ensures receiver_in_range { receiver < 64 }
+        ensures sender_in_range { sender < 64 }
+    {
+        self.pairs.get(index_of(receiver, sender))
     }
 
     /// A message, if it is in transit to this process, and its place among those that are.
@@ -78,7 +84,7 @@ impl Pairs {
             → (slice_get v.in_transit r.0 ≡ Some r.1)) }
         ensures number { IfSome result (λ r. r.1.msg ≡ msg) }
     {
-        self.pairs[index_of(p, from)].find(msg)
+        self.pair(p, from)?.find(msg)
     }
 
     /// What this process received last of the other one, in its live history.
@@ -87,7 +93,7 @@ impl Pairs {
             → list_all (is_later from msg) (s.live p) ≡ is_after msg result }
         ensures known { (v : PairState) → slice_get self.now (p * 64 + from) ≡ Some v → v.last ≡ result }
     {
-        self.pairs[index_of(p, from)].last()
+        self.pair(p, from)?.last()
     }
 
     /// The least message to this process from the other one in both live histories that was sent at one place or later
@@ -102,7 +108,7 @@ impl Pairs {
         ensures { (s : Past) → ShowsPairs self.now s → (v : PairState) × (slice_get self.now (p * 64 + from) ≡ Some v)
             × IsFoundPast v.received_from.arrivals sent received result }
     {
-        self.pairs[index_of(p, from)].link(sent, received)
+        self.pair(p, from)?.link(sent, received)
     }
 
     /// A process, p, sends a message to another one; unchanged where there is no memory.
@@ -113,6 +119,7 @@ impl Pairs {
         ensures err { OnErr result (self.new ≡ self.old) }
     {
         let place = index_of(to, p);
+        make_up_to(&mut self.pairs, place)?;
         self.pairs[place].send(message)?;
         self.used.add(place);
         Ok(())
@@ -246,7 +253,7 @@ fn commit_all(
     members: ProcSet,
     permanent: &[usize; 64],
 )
-    requires by_pair { IsByPair (map received_from_of pairs.old) }
+    requires by_pair { IsByPair (map received_from_of (with_new pairs.old)) }
     requires in_use { AreInUse pairs.old used.old }
     ensures count { length pairs.new ≡ length pairs.old }
     ensures each { (i : ℕ) (w : PairState) → slice_get pairs.new i ≡ Some w → (v : PairState)
@@ -255,7 +262,7 @@ fn commit_all(
 {
     let places = used.of(members);
     let mut next = 0;
-    while let Some(place) = places.first_from(next) {
+    while let Some(place) = places.first_between(next, pairs.len()) {
         let pair = &mut pairs[place];
         pair.commit(kind, members, permanent);
         if pair.is_idle() {
@@ -268,11 +275,10 @@ fn commit_all(
 
 // Gives back the room of those of these pairs that have no messages.
 fn shrink_all(pairs: &mut [Pair], places: &Peers)
-    requires { length pairs.old ≡ 4096 }
     ensures { pairs.new ≡ pairs.old }
 {
     let mut next = 0;
-    while let Some(place) = places.first_from(next) {
+    while let Some(place) = places.first_between(next, pairs.len()) {
         pairs[place].shrink();
         next = place + 1;
     }
@@ -280,7 +286,7 @@ fn shrink_all(pairs: &mut [Pair], places: &Peers)
 
 // The least orphan of the pairs at these places.
 fn least_orphan_of(pairs: &[Pair], places: &Peers, cut: &Cut) -> Option<MsgNo>
-    requires { length pairs.now ≡ 4096 }
+    requires { length pairs.now ≤ 4096 }
     ensures orphan { IfSome result (λ msg. (k : ℕ) × (v : PairState) × (slice_get pairs.now k ≡ Some v)
         × (is_in places.now k ≡ true)
         × ((s : Past) → IsInOrder s → ShowsReceived v.received_from s
@@ -294,20 +300,24 @@ fn least_orphan_of(pairs: &[Pair], places: &Peers, cut: &Cut) -> Option<MsgNo>
 {
     let mut least = None;
     let mut next = 0;
-    while let Some(place) = places.first_from(next) {
+    while let Some(place) = places.first_between(next, pairs.len()) {
         least = earlier(least, pairs[place].orphan(cut));
         next = place + 1;
     }
     least
 }
 
-// Adds the pairs of a receiver, one with each sender.
-fn add_initial_pairs(alloc: Global, pairs: &mut Vec<Pair>, receiver: ProcNo) -> Result<(), Memory>
-    requires { AreInitialPairs pairs.old.items (receiver * 64) }
-    ensures { OnOk result (AreInitialPairs pairs.new.items (receiver * 64 + 64)) }
+// Makes the pairs up to this place, those that are not there yet.
+#[inline(always)]
+fn make_up_to(pairs: &mut Vec<Pair>, place: usize) -> Result<(), Memory>
+    requires { place < 4096 }
+    ensures same { with_new pairs.new.items ≡ with_new pairs.old.items }
+    ensures made { OnOk result (place < length pairs.new.items) }
 {
-    for number in 0..ProcNo::COUNT {
-        pairs.push(Pair::new(alloc, receiver, ProcNo::nth(number)))?;
+    for number in pairs.len()..place + 1 {
+        let receiver = ProcNo::nth((number / 64) as u8);
+        let sender = ProcNo::nth((number % 64) as u8);
+        pairs.push(Pair::new(*pairs.allocator(), receiver, sender))?;
     }
     Ok(())
 }

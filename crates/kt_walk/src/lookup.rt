@@ -13,7 +13,7 @@ ghost use Rattle.kt_walk.specs.Pairs.{PairState, ShowsPairs};
 ghost use Rattle.kt_walk.specs.TraceEntries.{entries_of, entries_of_all, number_of, trace_at};
 ghost use Rattle.kt_walk.specs.Keeping.{kept_trace, held_of};
 
-use crate::all_pairs::{Pairs, index_of};
+use crate::all_pairs::Pairs;
 use crate::pair::Pair;
 use crate::queue::Arrival;
 use crate::received_from::Undone;
@@ -71,7 +71,7 @@ impl Pairs {
             → ShowsPairs self.now (past rows)
             → kept_trace rows msg ≡ Some (record { from = from; to = to; sent = Some sent; received = Some received }) → ⊥) }
     {
-        self.pairs[index_of(to, from)].places(msg)
+        self.pair(to, from)?.places(msg)
     }
 
     /// What is kept of a message.

@@ -68,8 +68,18 @@ impl Peers {
         Peers { senders }
     }
 
+    /// The place of the first pair from one place on and before another one.
+    pub(crate) fn first_between(&self, start: usize, end: usize) -> Option<usize>
+        ensures found { IfSome result (λ i. (start ≤ i) × (i < end) × (i < 4096) × (is_in self.now i ≡ true)
+            × ((k : ℕ) → start ≤ k → k < i → is_in self.now k ≡ false)) }
+        ensures none { IfNone result ((k : ℕ) → start ≤ k → k < end → k < 4096 → is_in self.now k ≡ false) }
+    {
+        let place = self.first_from(start)?;
+        if place < end { Some(place) } else { None }
+    }
+
     /// The place of the first pair from this place on.
-    pub(crate) fn first_from(&self, place: usize) -> Option<usize>
+    fn first_from(&self, place: usize) -> Option<usize>
         ensures found { IfSome result (λ i. (place ≤ i) × (i < 4096) × (is_in self.now i ≡ true)
             × ((k : ℕ) → place ≤ k → k < i → is_in self.now k ≡ false)) }
         ensures none { IfNone result ((k : ℕ) → place ≤ k → k < 4096 → is_in self.now k ≡ false) }

@@ -54,7 +54,7 @@ impl Walk {
         ensures { IfOk result (λ w. WalkOf w []) }
     {
         let control = ControlState::new(alloc)?;
-        let pairs = Pairs::new(alloc)?;
+        let pairs = Pairs::new(alloc);
         Ok(Walk { control, pairs })
     }
 

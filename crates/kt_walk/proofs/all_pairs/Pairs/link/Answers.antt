@@ -1,11 +1,14 @@
-use Rattle.std.proofs.Common.{◌+◌, ◌*◌, arith, sym, ◌∙◌}
-use Rattle.std.proofs.lemmas.Option.{slice_get_read}
+use Rattle.std.proofs.Common.{◌+◌, ◌*◌, None, refl}
+use Rattle.kt_walk.specs.Pairs.{new_pair_state}
 use Rattle.kt_walk.proofs.LinkFacts.{found_link}
-use Rattle.kt_walk.proofs.PairsFacts.{mapped_length}
 use Rattle.kt_walk.proofs.all_pairs.Pairs.link.Goals as goal
 
 pub returns : goal.returns
 returns c = λ s.
-    let index = c.index_of.ensures in
-    let at = slice_get_read c.self.inside.pairs.items 4096 c.index_of.result c.index.result.now (sym c.self.invariant.0.count ∙ mapped_length _ c.self.inside.pairs.items) (omega (arith, index.value, index.receiver_in_range, index.sender_in_range)) c.index.ensures in
-    found_link c.self.inside.pairs.items c.args.self.now s c.index_of.result (c.args.p * 64 + c.args.from) c.args.sent c.args.received c.index.result.now _ c.self.view_is index.value at c.link.ensures
+    let place = c.args.p * 64 + c.args.from in
+    found_link c.args.self.now c.args.self.now s place place c.args.sent c.args.received c.in_ok-pair.field-0.now _ refl refl c.in_ok-pair.ensures.some c.link.ensures
+
+pub returns-in_err-pair : goal.returns-in_err-pair
+returns-in_err-pair c = λ s.
+    let place = c.args.p * 64 + c.args.from in
+    rw c.from_residual.ensures (found_link c.args.self.now c.args.self.now s place place c.args.sent c.args.received (new_pair_state c.args.p c.args.from) None refl refl c.in_err-pair.ensures.none (λ rising. record { there = tt; least = λ k a e late early. absurd (cc e) }))

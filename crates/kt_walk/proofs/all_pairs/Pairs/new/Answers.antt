@@ -1,13 +1,12 @@
-use Rattle.std.proofs.Common.{subst, arith}
-use Rattle.kt_walk.specs.Pairs.{AreInitialPairs}
-use Rattle.kt_walk.proofs.PairsFacts.{initial_by_pair, initial_idle, pairs_start}
-use Rattle.kt_walk.proofs.UsedFacts.{none_used}
+use Rattle.std.proofs.Common.{List, map, sym, subst}
+use Rattle.kt_meaning.specs.Past.{start}
+use Rattle.kt_walk.specs.Arrivals.{IsByPair}
+use Rattle.kt_walk.specs.Pairs.{PairState, received_from_of, with_new, AreInUse, ShowsPairs}
+use Rattle.kt_walk.proofs.NewPairs.{new_by_pair, new_in_use, pairs_start}
 use Rattle.kt_walk.proofs.all_pairs.Pairs.new.Goals as goal
 
 pub invariant_of-result : goal.invariant_of-result
-invariant_of-result c =
-    let opened : AreInitialPairs c.loop-number.pairs.items 4096 = subst (AreInitialPairs c.loop-number.pairs.items) (omega (arith, c.loop-number-test.false, c.loop-number.auto.number-end)) c.loop-number.invariant in
-    (initial_by_pair c.loop-number.pairs.items opened, none_used c.loop-number.pairs.items _ (initial_idle c.loop-number.pairs.items 4096 opened))
+invariant_of-result c = (subst (λ (x : List PairState). IsByPair (map received_from_of (with_new x))) (sym c.new.ensures.items) new_by_pair, subst (λ (x : List PairState). AreInUse x c.new-2.result) (sym c.new.ensures.items) (new_in_use c.new-2.result))
 
 pub returns : goal.returns
-returns c = pairs_start c.loop-number.pairs.items (subst (AreInitialPairs c.loop-number.pairs.items) (omega (arith, c.loop-number-test.false, c.loop-number.auto.number-end)) c.loop-number.invariant)
+returns c = subst (λ (x : List PairState). ShowsPairs (with_new x) start) (sym c.new.ensures.items) pairs_start

@@ -2,19 +2,27 @@ use Rattle.std.proofs.Common.{List, sym, subst, ◌∙◌}
 use Rattle.std.specs.List.{slice_index}
 use Rattle.std.specs.Prelude.{◌||◌}
 use Rattle.kt_base.specs.Sets.{has}
-use Rattle.kt_walk.specs.Pairs.{PairState, ShowsPairs}
-use Rattle.kt_walk.proofs.PairsFacts.{least_of_pairs}
+use Rattle.kt_walk.specs.Pairs.{PairState, ShowsPairs, with_new}
+use Rattle.kt_walk.proofs.PairsFacts.{busy_if_orphan, least_of_pairs}
+use Rattle.kt_walk.proofs.NewPairs.{few_there, there_if_busy, orphan_with, in_use_with}
 use Rattle.kt_walk.proofs.UsedFacts.{among_if_orphan, some_among}
 use Rattle.kt_walk.proofs.all_pairs.Pairs.orphan_among.Goals as goal
 
+pub least_orphan_of-requires : goal.least_orphan_of-requires
+least_orphan_of-requires c = rw c.deref.ensures.value (few_there c.self.inside.pairs.items c.self.invariant.0)
+
 pub returns-clause-orphan : goal.returns-clause-orphan
-returns-clause-orphan c = some_among c.self.inside.pairs.items c.args.self.now c.self.inside.used c.of.result c.args.members c.args.cut.now c.least_orphan_of.result c.self.invariant.0 c.of.ensures c.self.view_is (rw c.deref.ensures.value at c.least_orphan_of.ensures.orphan)
+returns-clause-orphan c =
+    some_among (with_new c.self.inside.pairs.items) c.args.self.now c.self.inside.used c.of.result c.args.members c.args.cut.now c.least_orphan_of.result c.self.invariant.0 c.of.ensures c.self.view_is
+    (orphan_with c.self.inside.pairs.items c.of.result (slice_index c.args.cut.now) c.least_orphan_of.result (rw c.deref.ensures.value at c.least_orphan_of.ensures.orphan))
 
 pub returns-clause-least : goal.returns-clause-least
 returns-clause-least c = λ s p q m h keeps member o.
+    let items = c.self.inside.pairs.items in
     let known = rw c.deref.ensures.value at c.least_orphan_of.ensures.least in
-    least_of_pairs c.self.inside.pairs.items s c.args.cut.now p q m c.least_orphan_of.result c.self.invariant.0 (subst (λ (x : List PairState). ShowsPairs x s) (sym c.self.view_is) h) keeps o
+    least_of_pairs (with_new items) s c.args.cut.now p q m c.least_orphan_of.result c.self.invariant.0 (subst (λ (x : List PairState). ShowsPairs x s) (sym c.self.view_is) h) keeps o
     (λ k v at receiver sender last_permanent shown orphan.
-    let there = among_if_orphan c.self.inside.pairs.items c.self.inside.used c.of.result c.args.members k v (slice_index c.args.cut.now) s m c.self.invariant.0 c.self.invariant.1 c.of.ensures at
+    let here = there_if_busy items k v at (busy_if_orphan v (slice_index c.args.cut.now) s m last_permanent shown orphan) in
+    let among = among_if_orphan (with_new items) c.self.inside.used c.of.result c.args.members k v (slice_index c.args.cut.now) s m c.self.invariant.0 (in_use_with items c.self.inside.used c.self.invariant.1) c.of.ensures at
     ((λ i. has c.args.members (receiver i) || has c.args.members (sender i)) ∙ member) last_permanent shown orphan in
-    known k v s m there at last_permanent shown orphan)
+    known k v s m among here last_permanent shown orphan)

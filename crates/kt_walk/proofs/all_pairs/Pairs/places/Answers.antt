@@ -1,17 +1,19 @@
-use Rattle.std.proofs.Common.{arith, sym, ◌∙◌}
-use Rattle.std.proofs.lemmas.Option.{slice_get_read}
+use Rattle.std.proofs.Common.{◌+◌, ◌*◌, None, refl}
+use Rattle.kt_walk.specs.Pairs.{new_pair_state}
 use Rattle.kt_walk.proofs.FoundFacts.{found_places, missing_places}
-use Rattle.kt_walk.proofs.PairsFacts.{mapped_length}
 use Rattle.kt_walk.proofs.all_pairs.Pairs.places.Goals as goal
 
 pub returns-clause-found : goal.returns-clause-found
 returns-clause-found c =
-    let index = c.index_of.ensures in
-    let at = slice_get_read c.self.inside.pairs.items 4096 c.index_of.result c.index.result.now (sym c.self.invariant.0.count ∙ mapped_length _ c.self.inside.pairs.items) (omega (arith, index.value, index.receiver_in_range, index.sender_in_range)) c.index.ensures in
-    found_places c.self.inside.pairs.items c.args.self.now c.index_of.result c.index.result.now c.args.to c.args.from c.args.msg c.places.result c.self.view_is c.self.invariant.0 at index.value index.receiver_in_range index.sender_in_range c.places.ensures.found
+    let known = c.in_ok-pair.ensures in
+    found_places c.args.self.now c.args.self.now (c.args.to * 64 + c.args.from) c.in_ok-pair.field-0.now c.args.to c.args.from c.args.msg c.places.result refl known.by_pair known.some refl known.receiver_in_range known.sender_in_range c.places.ensures.found
 
 pub returns-clause-none : goal.returns-clause-none
 returns-clause-none c =
-    let index = c.index_of.ensures in
-    let at = slice_get_read c.self.inside.pairs.items 4096 c.index_of.result c.index.result.now (sym c.self.invariant.0.count ∙ mapped_length _ c.self.inside.pairs.items) (omega (arith, index.value, index.receiver_in_range, index.sender_in_range)) c.index.ensures in
-    missing_places c.self.inside.pairs.items c.args.self.now c.index_of.result c.index.result.now c.args.to c.args.from c.args.msg c.places.result c.self.view_is c.self.invariant.0 at index.value index.receiver_in_range index.sender_in_range c.places.ensures.none
+    let known = c.in_ok-pair.ensures in
+    missing_places c.args.self.now c.args.self.now (c.args.to * 64 + c.args.from) c.in_ok-pair.field-0.now c.args.to c.args.from c.args.msg c.places.result refl known.by_pair known.some refl known.receiver_in_range known.sender_in_range c.places.ensures.none
+
+pub returns-in_err-pair-clause-none : goal.returns-in_err-pair-clause-none
+returns-in_err-pair-clause-none c =
+    let known = c.in_err-pair.ensures in
+    rw c.from_residual.ensures (missing_places c.args.self.now c.args.self.now (c.args.to * 64 + c.args.from) (new_pair_state c.args.to c.args.from) c.args.to c.args.from c.args.msg None refl known.by_pair known.none refl known.receiver_in_range known.sender_in_range (λ rising sent received has. absurd (cc has.1)))
