@@ -5,7 +5,8 @@ use crate::node_steps::{Step, What};
 use kt_base::{Label, ProcNo};
 use kt_merge::PartRow;
 use kt_net::NodeParcel;
-use kt_node::{Envelope, Node, NodeFault, Output, Taken};
+use kt_node::{Envelope, Input, Node, NodeFault, Output, Taken};
+use kt_plan::Look;
 use kt_spacetime::NamedRow;
 use std::alloc::Global;
 use std::io;
@@ -106,18 +107,12 @@ impl Net {
         self.nodes.get(p)
     }
 
-    // The envelope that a step brings, if it brings one: the front of a link goes, and is noted.
-    fn brought(&mut self, step: &Step) -> Option<(ProcNo, Envelope)> {
+    // The envelope that a step would bring, if it brings one.
+    fn coming(&self, step: &Step) -> Option<(ProcNo, Envelope)> {
         match step.what {
             What::Take(from, _) => {
-                let place = place(from, step.p);
-                let link = self.links.get_mut(place)?;
-                if link.is_empty() {
-                    return None;
-                }
-                let sent = link.remove(0);
-                self.taken.get_mut(place)?.push(sent).ok()?;
-                Some((from, sent.envelope()))
+                let link = self.links.get(place(from, step.p))?;
+                Some((from, link.first()?.envelope()))
             }
             What::Again(from) => {
                 let taken = self.taken.get(place(from, step.p))?;
@@ -126,6 +121,46 @@ impl Net {
             What::Forged(from, envelope) => Some((from, envelope)),
             What::Send(..) | What::Begin(..) | What::Fail => None,
         }
+    }
+
+    // What a node needs to take what a step would bring.
+    fn look_at_link(&self, node: &Node, step: &Step) -> Look {
+        match self.coming(step) {
+            Some((from, envelope)) => node.look(&Input::Deliver { from, envelope }),
+            None => Look::Idle,
+        }
+    }
+
+    /// What a step needs of its node's object: what the node holds comes before its link.
+    pub(crate) fn look(&self, step: &Step) -> Look {
+        let Some(node) = self.nodes.get(step.p.index()) else {
+            return Look::Idle;
+        };
+        match step.what {
+            What::Send(to, body) => node.look(&Input::Send { to, body }),
+            What::Begin(kind, _) => node.look(&Input::Begin(kind)),
+            What::Fail => node.look(&Input::Fail),
+            What::Take(from, _) => match node.look(&Input::Redeliver(from)) {
+                Look::Idle => self.look_at_link(node, step),
+                look => look,
+            },
+            What::Again(_) | What::Forged(..) => self.look_at_link(node, step),
+        }
+    }
+
+    // The envelope that a step brings, if it brings one: the front of a link goes, and is noted.
+    fn brought(&mut self, step: &Step) -> Option<(ProcNo, Envelope)> {
+        let What::Take(from, _) = step.what else {
+            return self.coming(step);
+        };
+        let place = place(from, step.p);
+        let link = self.links.get_mut(place)?;
+        if link.is_empty() {
+            return None;
+        }
+        let sent = link.remove(0);
+        self.taken.get_mut(place)?.push(sent).ok()?;
+        Some((from, sent.envelope()))
     }
 
     // What a node does at a command, or with a message that it holds.

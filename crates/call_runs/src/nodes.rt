@@ -4,6 +4,7 @@ use crate::faults::{refused, value_of};
 use crate::net::{Done, Net};
 use crate::node_steps::step_of;
 use kt_merge::write_part;
+use kt_plan::Look;
 use std::alloc::Global;
 use std::{fs, io};
 
@@ -35,6 +36,11 @@ fn show_node_parts<R: Print + AllocGlobal>(rt: &R, net: &Net) -> io::Result<()> 
             manager.is_in_rollback(),
             manager.next_held().is_some()
         )?;
+        let permanent = node.permanent();
+        println!(rt;
+            "its permanent checkpoint has messages up to {}, and of others up to {}, {}, {}",
+            permanent.sent, permanent.received[0], permanent.received[1], permanent.received[2]
+        )?;
     }
     Ok(())
 }
@@ -51,6 +57,11 @@ fn follow<R: Print + AllocGlobal>(rt: &R, net: &mut Net, line: &str) -> io::Resu
             let Some(step) = step_of(line) else {
                 return refused();
             };
+            match net.look(&step) {
+                Look::NeedsSave => println!(rt; "{line}: its object is to be saved")?,
+                Look::Idle => println!(rt; "{line}: idle")?,
+                Look::NeedsBody | Look::Plain => {}
+            }
             match net.take(rt.alloc(), &step)? {
                 Done::Step => Ok(()),
                 Done::Again => println!(rt; "{line}: it came before"),

@@ -18,3 +18,6 @@ pub mod Swaps
 pub mod Sorting
 pub mod Unclocked
 pub mod Merged
+pub mod NodeKeeps
+pub mod NodeCalls
+pub mod NodeCheckpoints

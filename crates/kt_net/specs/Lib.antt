@@ -8,3 +8,5 @@ pub mod NodeSteps
 pub mod Nets
 pub mod Erasing
 pub mod Clocks
+pub mod NodeLooks
+pub mod NodeHistories

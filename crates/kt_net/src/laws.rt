@@ -1,6 +1,6 @@
 //! Laws of nets; there is nothing to run.
 
-ghost use Rattle.std.specs.Prelude.{◌≡◌, ℕ, Some, List, map};
+ghost use Rattle.std.specs.Prelude.{◌≡◌, ◌↔◌, ◌++◌, ℕ, Bool, true, false, Some, List, map, Contains};
 ghost use Rattle.kt_spacetime.specs.declared.event.Event.{Event};
 ghost use Rattle.kt_tables.specs.Calls.{Speaks};
 ghost use Rattle.kt_protocol.specs.States.{ProtocolStep, opening};
@@ -8,7 +8,12 @@ ghost use Rattle.kt_protocol.specs.LateSteps.{late_run};
 ghost use Rattle.kt_machine.specs.Seen.{seen};
 ghost use Rattle.kt_meaning.specs.Names.{numbered};
 ghost use Rattle.kt_machine.specs.SeenActs.{seen_acts};
+ghost use Rattle.kt_machine.specs.Values.{Keep};
 ghost use Rattle.kt_meaning.specs.Promised.{IsPromised, IsCertified};
+ghost use Rattle.kt_net.specs.Nodes.{NodeState, Input};
+ghost use Rattle.kt_net.specs.NodeSteps.{node_after};
+ghost use Rattle.kt_net.specs.NodeLooks.{where_able, would_save};
+ghost use Rattle.kt_net.specs.NodeHistories.{histories, calls_told, GoesOn, HasCheckpoints};
 ghost use Rattle.kt_net.specs.Nets.{net_step, net_run, opening_net, net_acts};
 ghost use Rattle.kt_net.specs.Clocks.{ClockedRow, clocked_run, opening_clocked, rows_of, AreByClock};
 ghost use Rattle.kt_net.specs.Erasing.{name_in, erased_node, erased_parcels, rows_from};
@@ -78,3 +83,29 @@ pub fn order_of_nets()
 {
     logs_of_nets();
 }
+
+/// What a node's step needs of its object, for every state of a node and every input.
+pub fn looks_of_nodes()
+    // It keeps its object's state exactly where the input makes it take a checkpoint, and the object can be saved.
+    ensures keeps { (y : NodeState) (x : Input) (able : Bool) →
+        (Contains (node_after y (where_able able x)).acts Keep) ↔ ((would_save y x ≡ true) × (able ≡ true)) }
+
+    // Nowhere else does it count whether the object can be saved.
+    ensures counts { (y : NodeState) (x : Input) (able was : Bool) → would_save y x ≡ false →
+        node_after y (where_able able x) ≡ node_after y (where_able was x) }
+{}
+
+/// A node's step tells by its rows and acts which calls are made on its tables, for every state and every input.
+pub fn calls_of_nodes()
+    ensures calls { (y : NodeState) (x : Input) →
+        (node_after y x).state.calls ≡ y.calls ++ calls_told (node_after y x).rows (node_after y x).acts }
+{}
+
+/// What a node's permanent checkpoint has of its messages stays there: no later step takes it away, whatever comes.
+pub fn permanent_checkpoints()
+    ensures opens { (n first p : ℕ) → HasCheckpoints ((opening_net n first).nodes p) }
+    ensures steps { (y : NodeState) (x : Input) → HasCheckpoints y →
+        HasCheckpoints (node_after y x).state }
+    ensures stays { (y : NodeState) (x : Input) → HasCheckpoints y →
+        GoesOn (histories y.calls).permanent (histories (node_after y x).state.calls).permanent }
+{}

@@ -4,13 +4,17 @@
 //! gives itself. Nodes with a channel from each to each other one make a net.
 //!
 //! **What to change where:** what a node has `specs/Nodes`; its rules `specs/NodeMessages`, `specs/NodeJoining`,
-//! `specs/NodeClosing`, `specs/NodeSteps`; nets `specs/Nets`; parcels `parcels.rt`.
+//! `specs/NodeClosing`, `specs/NodeSteps`; what a step needs of its object `specs/NodeLooks`; what is in its permanent
+//! checkpoint `specs/NodeHistories`; nets `specs/Nets`; parcels `parcels.rt`.
 #![tactic(auto)]
 
 mod laws;
 mod parcels;
 mod worked;
 
-pub use laws::{acts_of_nets, logs_of_nets, nets_are_runs, order_of_nets};
+pub use laws::{
+    acts_of_nets, calls_of_nodes, logs_of_nets, looks_of_nodes, nets_are_runs, order_of_nets,
+    permanent_checkpoints,
+};
 pub use parcels::NodeParcel;
 pub use worked::worked_nets;

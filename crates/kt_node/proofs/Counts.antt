@@ -1,5 +1,5 @@
 -- Counts for each process, and steps with clocks.
-use Rattle.std.proofs.Common.{◌≡◌, ◌≢◌, ◌∙◌, ℕ, zero, suc, ◌+◌, ◌<◌, ◌≤◌, true, false, List, length, refl, arith, sym, ap, ap₂, subst, inl, inr}
+use Rattle.std.proofs.Common.{◌≡◌, ◌≢◌, ◌∙◌, ℕ, zero, suc, ◌+◌, ◌<◌, ◌≤◌, true, false, List, length, refl, arith, sym, ap, ap₂, subst, ◌++◌, inl, inr}
 use Rattle.std.specs.Prelude.{max, replicate, slice_index, slice_set, Option, Some, None, is_some}
 use Rattle.std.specs.Option.{option_to_list}
 use Rattle.kt_net.specs.declared.parcels.NodeParcel.{NodeParcel}
@@ -7,10 +7,16 @@ use Rattle.std.proofs.lemmas.Bool.{cases_eq}
 use Rattle.std.proofs.lemmas.List.{get_or-set_same, get_or-set_other, length-set}
 use Rattle.kt_meaning.specs.Past.{at_one}
 use Rattle.kt_protocol.proofs.Updates.{at_one_here, at_one_other}
-use Rattle.kt_net.specs.Nodes.{Doing}
+use Rattle.kt_tables.specs.Calls.{Call}
+use Rattle.kt_net.specs.Nodes.{NodeState, Input}
+use Rattle.kt_net.specs.NodeSteps.{node_after}
+use Rattle.kt_net.specs.NodeHistories.{calls_told}
+use Rattle.kt_net.proofs.NodeCalls.{step_tells}
 use Rattle.kt_node.specs.declared.effects.Effects.{Effects}
 use Rattle.kt_node.specs.declared.node.Output.{Output}
-use Rattle.kt_node.specs.Effects.{IsDone, put_to}
+use Rattle.kt_node.specs.declared.reach.Reaches.{Reaches}
+use Rattle.kt_node.specs.Effects.{IsDone, put_to, calls_of}
+use Rattle.kt_node.specs.Reaches.{HasReaches}
 use Rattle.kt_node.specs.Links.{NodeLinks, IsStep}
 use Rattle.kt_node.specs.Managers.{ManagerState}
 
@@ -35,16 +41,21 @@ set_within xs i v c b l h q = elim (cases_eq q i) [
   | inr n ↦ subst (λ (m : ℕ). m ≤ c) (sym (get_or-set_other xs i q v 0 n)) (h q)
 ]
 
--- a step: its manager did this, and its parcels were counted
-pub step_of : (old new : NodeLinks) (m : ManagerState) (before : List ℕ) (came clock : ℕ) (d : Doing) (e : Effects) (out : Output) → IsDone m e d → clock ≡ max old.clock came + 1 → new.manager ≡ m → new.clock ≡ clock → before ≡ old.sent
-    → ((q : ℕ) → q < 64 → slice_index new.sent q ≡ slice_index before q + length (put_to e.parcels q)) → out.effects ≡ e → out.clock ≡ clock → out.numbers ≡ new.sent → IsStep old new came d out
-step_of old new m before came clock d e out done ticks manager is same sent effects told numbers = record {
-  done = subst (λ (x : ManagerState). IsDone x out.effects d) (sym manager) (subst (λ (x : Effects). IsDone m x d) (sym effects) done);
+-- a step: its manager did this, its parcels were counted, and its messages followed
+pub step_of : (old new : NodeLinks) (m : ManagerState) (before : List ℕ) (came clock : ℕ) (y : NodeState) (x : Input) (e : Effects) (out : Output) → IsDone m e (node_after y x) → clock ≡ max old.clock came + 1 → new.manager ≡ m → new.clock ≡ clock → before ≡ old.sent
+    → ((q : ℕ) → q < 64 → slice_index new.sent q ≡ slice_index before q + length (put_to e.parcels q)) → out.effects ≡ e → out.clock ≡ clock → out.numbers ≡ new.sent
+    → (HasReaches old.reaches y.calls → HasReaches new.reaches (y.calls ++ calls_of e)) → IsStep old new came y x out
+step_of old new m before came clock y x e out done ticks manager is same sent effects told numbers reaches = record {
+  done = subst (λ (w : ManagerState). IsDone w out.effects (node_after y x)) (sym manager) (subst (λ (z : Effects). IsDone m z (node_after y x)) (sym effects) done);
   clock = is ∙ ticks;
   told = told ∙ sym is;
   sent = λ q b. sent q b ∙ ap₂ (λ (x y : ℕ). x + y) (ap (λ (l : List ℕ). slice_index l q) same) (ap length (done.puts q));
   numbers = numbers;
+  reaches = λ h. subst (λ (calls : List Call). HasReaches new.reaches calls) (ap₂ (λ rows acts. y.calls ++ calls_told rows acts) done.rows done.acts ∙ sym (step_tells y x)) (reaches h);
 }
+
+pub inside_reaches : (w : NodeLinks) (r : Reaches) (calls : List Call) → r ≡ w.reaches → HasReaches w.reaches calls → HasReaches r calls
+inside_reaches w r calls e h = subst (λ (x : Reaches). HasReaches x calls) (sym e) h
 
 -- so far each has one more for what is put for it
 abbrev pub Counted : ℕ → List ℕ → List ℕ → (ℕ → List NodeParcel) → Type 0

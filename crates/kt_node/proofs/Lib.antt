@@ -7,3 +7,5 @@ pub mod Hearing
 pub mod Replying
 pub mod Messages
 pub mod Counts
+pub mod Reaching
+pub mod Looking

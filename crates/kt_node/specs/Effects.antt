@@ -6,7 +6,9 @@ use Rattle.kt_spacetime.specs.declared.names.InstName.{InstName}
 use Rattle.kt_spacetime.specs.declared.named_rows.NamedEvent.{NamedEvent}
 use Rattle.kt_net.specs.declared.parcels.NodeParcel.{NodeParcel}
 use Rattle.kt_net.specs.declared.parcels.NodeParcel.TheVariants.{Ask, Decide}
+use Rattle.kt_tables.specs.Calls.{Call}
 use Rattle.kt_net.specs.Nodes.{Doing}
+use Rattle.kt_net.specs.NodeHistories.{calls_told}
 use Rattle.kt_system.specs.ShownActs.{acts_shown}
 use Rattle.kt_node.specs.declared.effects.Effects.{Effects}
 use Rattle.kt_node.specs.declared.effects.Parcels.{Parcels}
@@ -34,6 +36,10 @@ put_to puts.Nothing q = []
 put_to (puts.One to parcel) q = if q == to then parcel ∷ [] else []
 put_to (puts.Asks k kind asks) q = ask_with k kind (label_for asks q)
 put_to (puts.Decisions k c to) q = if has to q then Decide k c ∷ [] else []
+
+-- the calls on tables that they tell
+abbrev pub calls_of : Effects → List Call
+calls_of e = calls_told (rows_told e.rows) (acts_shown e.acts)
 
 -- a manager has done this, and these are its effects
 pub record IsDone (w : ManagerState) (e : Effects) (d : Doing) : Type 0 where

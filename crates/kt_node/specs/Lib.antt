@@ -4,4 +4,6 @@ pub mod Managers
 pub mod Effects
 pub mod Faults
 pub mod Turns
+pub mod Reaches
 pub mod Links
+pub mod Looks

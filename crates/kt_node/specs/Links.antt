@@ -1,23 +1,32 @@
--- A manager whose parcels have numbers and whose steps have clocks.
+-- A manager whose parcels have numbers and whose steps have clocks, and which knows how far its messages go.
 use Rattle.std.specs.Prelude.{◌≡◌, ◌+◌, ◌-◌, ◌^◌, ◌<◌, ◌≤◌, ℕ, max, Option, None, Result, Ok, Err, List, length, slice_index}
 use Rattle.kt_meaning.specs.Past.{at_one}
-use Rattle.kt_net.specs.Nodes.{Doing}
+use Rattle.kt_net.specs.Nodes.{NodeState, Input}
+use Rattle.kt_net.specs.NodeSteps.{node_after}
 use Rattle.kt_node.specs.declared.node.Output.{Output}
 use Rattle.kt_node.specs.declared.node.Taken.{Taken}
 use Rattle.kt_node.specs.declared.node.Taken.TheVariants.{Step, Again}
-use Rattle.kt_node.specs.Managers.{ManagerState, IsSameManager}
+use Rattle.kt_node.specs.declared.reach.Reaches.{Reaches}
+use Rattle.kt_node.specs.Managers.{ManagerState, ShowsNode, IsSameManager}
+use Rattle.kt_node.specs.Reaches.{HasReaches}
 use Rattle.kt_node.specs.Effects.{IsDone}
 use Rattle.kt_node.specs.declared.faults.ManagerFault.{ManagerFault}
 use Rattle.kt_node.specs.declared.node.NodeFault.{NodeFault}
 use Rattle.kt_node.specs.declared.node.NodeFault.TheVariants as fault
 use Rattle.kt_node.specs.Faults.{but_memory}
 
--- its clock, and how many parcels it put for each process and took of each
+-- its clock, how many parcels it put for each process and took of each, and how far the messages of its histories go
 pub record NodeLinks : Type 0 where
   pub manager : ManagerState
   pub clock : ℕ
   pub sent : List ℕ
   pub taken : List ℕ
+  pub reaches : Reaches
+
+-- a node is this state of one
+pub record ShowsLinks (w : NodeLinks) (y : NodeState) : Type 0 where
+  pub manager : ShowsNode w.manager y
+  pub reaches : HasReaches w.reaches y.calls
 
 -- each parcel that was put or taken took a step of its own
 pub record AreCounted (w : NodeLinks) : Type 0 where
@@ -25,13 +34,14 @@ pub record AreCounted (w : NodeLinks) : Type 0 where
   pub sent : (q : ℕ) → slice_index w.sent q ≤ w.clock
   pub taken : (q : ℕ) → slice_index w.taken q ≤ w.clock
 
--- a step with the clock that follows its own and that of what came: it does this, its parcels have the next numbers
-pub record IsStep (old new : NodeLinks) (came : ℕ) (d : Doing) (out : Output) : Type 0 where
-  pub done : IsDone new.manager out.effects d
+-- a step at an input, with the clock that follows its own and that of what came: its parcels have the next numbers
+pub record IsStep (old new : NodeLinks) (came : ℕ) (y : NodeState) (x : Input) (out : Output) : Type 0 where
+  pub done : IsDone new.manager out.effects (node_after y x)
   pub clock : new.clock ≡ max old.clock came + 1
   pub told : out.clock ≡ new.clock
-  pub sent : (q : ℕ) → q < 64 → slice_index new.sent q ≡ slice_index old.sent q + length (d.puts q)
+  pub sent : (q : ℕ) → q < 64 → slice_index new.sent q ≡ slice_index old.sent q + length ((node_after y x).puts q)
   pub numbers : out.numbers ≡ new.sent
+  pub reaches : HasReaches old.reaches y.calls → HasReaches new.reaches (node_after y x).state.calls
 
 -- the same node, but for spare room
 pub record IsSameNode (new old : NodeLinks) : Type 0 where
@@ -39,6 +49,7 @@ pub record IsSameNode (new old : NodeLinks) : Type 0 where
   pub clock : new.clock ≡ old.clock
   pub sent : new.sent ≡ old.sent
   pub taken : new.taken ≡ old.taken
+  pub reaches : new.reaches ≡ old.reaches
 
 -- the next parcel of a process is taken, and an earlier one changes nothing
 abbrev pub TakesNext : NodeLinks → NodeLinks → ℕ → ℕ → Taken → Type 0

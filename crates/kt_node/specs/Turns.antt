@@ -8,8 +8,8 @@ use Rattle.kt_process.specs.declared.actions.Action.{Action}
 use Rattle.kt_process.specs.declared.actions.Action.TheVariants.{Nothing, Refuse, Join, Reply, Settle}
 use Rattle.kt_process.specs.declared.actions.Then.{Then}
 use Rattle.kt_process.specs.declared.actions.Then.TheVariants.{Wait, Commit}
-use Rattle.kt_process.specs.ProcessStates.{is_ready}
-use Rattle.kt_process.specs.Shown.{no_mark}
+use Rattle.kt_process.specs.ProcessStates.{ProcessState, is_ready}
+use Rattle.kt_process.specs.Shown.{BeginsAs, HearsAs, no_mark}
 use Rattle.kt_machine.specs.SeenJoining.{part_after_ask}
 use Rattle.kt_spacetime.specs.declared.names.InstName.{InstName}
 use Rattle.kt_spacetime.specs.declared.named_rows.NamedCause.{NamedCause}
@@ -22,7 +22,7 @@ use Rattle.kt_net.specs.Nodes.{NodeState, Doing, nothing, putting, with_one}
 use Rattle.kt_net.specs.NodeClosing.{closing}
 use Rattle.kt_net.specs.NodeSteps.{is_in}
 use Rattle.kt_system.specs.ShownActs.{acts_joining}
-use Rattle.kt_node.specs.Managers.{ManagerState, HasBack}
+use Rattle.kt_node.specs.Managers.{ManagerState, HasBack, process_of, number_for}
 
 -- whether its object can be saved counts in a checkpoint, and so do marks
 abbrev pub able_in : Kind → Bool → Bool
@@ -32,6 +32,14 @@ able_in Rollback able = true
 abbrev pub marks_in : Kind → NodeState → ℕ → ℕ
 marks_in Checkpoint y = λ q. length (y.kept q)
 marks_in Rollback y = no_mark
+
+-- its process begins an instance of a kind, or refuses
+abbrev pub BeginsIn : Kind → Bool → NodeState → ProcessState → Action → Type 0
+BeginsIn kind able y new action = BeginsAs kind (able_in kind able) y.processes 1 (marks_in kind y) (process_of y) new action
+
+-- its process answers an ask of q to join k, or joins
+abbrev pub HearsIn : Kind → Bool → ℕ → InstName → ℕ → NodeState → ProcessState → Action → Type 0
+HearsIn kind able q k label y new action = HearsAs kind (able_in kind able) y.processes q (number_for y.inst k) label (marks_in kind y) (process_of y) new action
 
 -- who joins asks nobody where it goes on at once, and may close at once
 pub record CanGoOn (w : ManagerState) (asks : List (ℕ × ℕ)) (goes : Then) : Type 0 where

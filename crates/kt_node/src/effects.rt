@@ -109,7 +109,8 @@ impl Effects {
 
     /// One row alone.
     pub(crate) fn told(row: NamedEvent) -> Effects
-        ensures { (w : ManagerState) (y : NodeState) → ShowsNode w y → IsDone w result (record (nothing y) { rows = row ∷ [] }) }
+        ensures { (w : ManagerState) (y : NodeState) → ShowsNode w y →
+            IsDone w result (record (nothing y) { rows = row ∷ [] }) }
     {
         Effects {
             rows: [Some(row), None, None, None],

@@ -6,16 +6,22 @@
 //! process with a number is the one that this process put is its caller's to see to.
 //!
 //! **What to change where:** what a manager holds `manager.rt`; messages and failures `manager/messages.rt`; beginning,
-//! joining and closing `manager/instances.rt`; any parcel `manager/parcels.rt`; what a step puts out `effects.rt`; when a
-//! call is refused `faults.rt`, `specs/Faults`; numbers and clocks `node.rt`, `specs/Links`.
+//! joining and closing `manager/instances.rt`; any parcel `manager/parcels.rt`; what a step needs of the object
+//! `manager/looks.rt`, `inputs.rt`, `specs/Looks`; what a step puts out `effects.rt`; when a call is refused `faults.rt`,
+//! `specs/Faults`; numbers and clocks `node.rt`, `specs/Links`; what its permanent checkpoint has `reach.rt`,
+//! `specs/Reaches`.
 #![tactic(auto)]
 
 mod effects;
 mod faults;
+mod inputs;
 mod manager;
 mod node;
+mod reach;
 
 pub use effects::{Effects, Parcels};
 pub use faults::ManagerFault;
+pub use inputs::Input;
 pub use manager::Manager;
 pub use node::{Envelope, Node, NodeFault, Output, Taken};
+pub use reach::Reach;

@@ -18,6 +18,7 @@ use std::alloc::Global;
 use std::marker::Model;
 
 mod instances;
+mod looks;
 mod messages;
 mod parcels;
 
@@ -118,8 +119,10 @@ impl Manager {
 
     /// The least process of which it holds something that it could take now.
     pub fn next_held(&self) -> Option<ProcNo>
-        ensures some { IfSome result (λ q. (y : NodeState) → ShowsNode self.now y → (is_in_rollback y ≡ false) × (has_some (y.held q) ≡ true)) }
-        ensures none { IfNone result ((y : NodeState) (q : ℕ) → ShowsNode self.now y → is_in_rollback y ≡ false → has_some (y.held q) ≡ false) }
+        ensures some { IfSome result (λ q. (y : NodeState) → ShowsNode self.now y →
+            (is_in_rollback y ≡ false) × (has_some (y.held q) ≡ true)) }
+        ensures none { IfNone result ((y : NodeState) (q : ℕ) → ShowsNode self.now y →
+            is_in_rollback y ≡ false → has_some (y.held q) ≡ false) }
     {
         if self.is_in_rollback() {
             return None;
@@ -131,7 +134,8 @@ impl Manager {
     fn meet(&self, q: ProcNo) -> Result<(), ManagerFault>
         ensures within { OnOk result (q < self.now.size) }
         ensures ok { OnOk result ((y : NodeState) → ShowsNode self.now y → stranger y q ≡ None) }
-        ensures err { IfErr result (λ f. (y : NodeState) → ShowsNode self.now y → stranger y q ≡ Some f) }
+        ensures err { IfErr result (λ f. (y : NodeState) → ShowsNode self.now y →
+            stranger y q ≡ Some f) }
     {
         if q.index() >= self.size {
             return Err(ManagerFault::Unknown);

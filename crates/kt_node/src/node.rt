@@ -1,23 +1,30 @@
 //! A node: a manager whose parcels have numbers, by sender and receiver, and whose steps have clocks.
 
-ghost use Rattle.std.specs.Prelude.{◌≡◌, ◌<◌, ◌≤◌, ◌+◌, ◌-◌, ◌^◌, ℕ, max, length, slice_index, Some, IfOk, IfErr, IfSome, OnErr, IsErrOf};
+ghost use Rattle.std.specs.Prelude.{◌≡◌, ◌<◌, ◌≤◌, ◌+◌, ◌-◌, ◌^◌, ◌++◌, ℕ, List, max, length, slice_index, Some, IfOk, IfErr, IfSome, OnErr, IsErrOf};
 ghost use Rattle.std.specs.Option.{option_to_list, option_map};
 ghost use Rattle.kt_meaning.specs.Past.{at_one, is_rollback_kind};
-ghost use Rattle.kt_tables.specs.Calls.{Speaks};
+ghost use Rattle.kt_tables.specs.Calls.{Call, receiveds, Speaks};
+ghost use Rattle.kt_tables.specs.Labels.{greatest};
 ghost use Rattle.kt_net.specs.Nodes.{NodeState, Send, Begin, Fail, Held, Comes};
 ghost use Rattle.kt_net.specs.NodeSteps.{node_after};
+ghost use Rattle.kt_net.specs.NodeHistories.{histories, sent_labels};
 ghost use Rattle.kt_net.specs.Nets.{opening_net};
 ghost use Rattle.kt_node.specs.Managers.{ShowsNode};
-ghost use Rattle.kt_node.specs.Effects.{put_to};
+ghost use Rattle.kt_node.specs.Effects.{put_to, calls_of};
 ghost use Rattle.kt_node.specs.Faults.{fault_at};
-ghost use Rattle.kt_node.specs.Links.{IsStep, TakesNext, IsUntaken, IsSameNode, IsNodeRefusedAs, IsParcelRefusedAs};
+ghost use Rattle.kt_node.specs.Looks.{is_next, node_look};
+ghost use Rattle.kt_node.specs.Reaches.{HasReaches};
+ghost use Rattle.kt_node.specs.Links.{ShowsLinks, IsStep, TakesNext, IsUntaken, IsSameNode, IsNodeRefusedAs, IsParcelRefusedAs};
 ghost use Rattle.kt_node.specs.declared.node.NodeFault.TheVariants as fault;
 
 use crate::effects::{Effects, Parcels};
 use crate::faults::ManagerFault;
+use crate::inputs::Input;
 use crate::manager::Manager;
+use crate::reach::{Reach, Reaches};
 use kt_base::{Kind, Label, Memory, ProcNo};
 use kt_net::NodeParcel;
+use kt_plan::Look;
 use std::alloc::Global;
 use std::marker::Model;
 use thiserror::Error;
@@ -71,13 +78,14 @@ impl From<ManagerFault> for NodeFault {
     }
 }
 
-/// A manager, its clock, and how many parcels it put for each process and took of each.
+/// A manager, its clock, how many parcels it put for each process and took of each, and how far its messages go.
 #[derive(Drop)]
 pub struct Node {
     manager: Manager,
     clock: u64,
     sent: [u64; 64],
     taken: [u64; 64],
+    reaches: Reaches,
 }
 
 impl Model for Node {
@@ -85,15 +93,16 @@ impl Model for Node {
 
     ghost Value = { NodeLinks };
 
-    ghost view = { λ n. record { manager = n.manager; clock = n.clock; sent = n.sent; taken = n.taken } };
+    ghost view = { λ n. record { manager = n.manager; clock = n.clock; sent = n.sent; taken = n.taken; reaches = n.reaches } };
 
-    ghost invariant = { λ n. AreCounted (record { manager = n.manager; clock = n.clock; sent = n.sent; taken = n.taken }) };
+    ghost invariant = { λ n. AreCounted (record { manager = n.manager; clock = n.clock; sent = n.sent; taken = n.taken; reaches = n.reaches }) };
 }
 
 impl Output {
     /// The parcel for a process, if there is one.
     pub fn to(&self, q: ProcNo) -> Option<Envelope>
-        ensures parcel { option_to_list (option_map (λ e. e.parcel) result) ≡ put_to self.now.effects.parcels q }
+        ensures parcel { option_to_list (option_map (λ e. e.parcel) result)
+            ≡ put_to self.now.effects.parcels q }
         ensures number { IfSome result (λ e. e.number ≡ slice_index self.now.numbers q) }
         ensures clock { IfSome result (λ e. e.clock ≡ self.now.clock) }
     {
@@ -113,7 +122,7 @@ impl Node {
     pub fn new(alloc: Global, me: ProcNo, processes: usize, used: Label) -> Result<Node, Memory>
         requires me { me < processes }
         requires few { processes ≤ 64 }
-        ensures shows { IfOk result (λ n. ShowsNode n.manager ((opening_net processes used).nodes me)) }
+        ensures shows { IfOk result (λ n. ShowsLinks n ((opening_net processes used).nodes me)) }
         ensures clock { IfOk result (λ n. n.clock ≡ 0) }
         ensures sent { IfOk result (λ n. (q : ℕ) → slice_index n.sent q ≡ 0) }
         ensures taken { IfOk result (λ n. (q : ℕ) → slice_index n.taken q ≡ 0) }
@@ -123,6 +132,7 @@ impl Node {
             clock: 0,
             sent: [0; 64],
             taken: [0; 64],
+            reaches: Reaches::none(),
         })
     }
 
@@ -133,11 +143,46 @@ impl Node {
         &self.manager
     }
 
+    /// What the step at an input needs of its object: that this is saved, or nothing; idle where there is no step, so also
+    /// where a parcel is not the next one of its sender.
+    pub fn look(&self, input: &Input) -> Look
+        ensures { (y : NodeState) → ShowsNode self.now.manager y →
+            result ≡ node_look self.now y input.now }
+    {
+        if !self.is_next(input) || self.next_clock(input.clock()).is_err() {
+            return Look::Idle;
+        }
+        self.manager.look(input)
+    }
+
+    /// Whether an input is no parcel, or the next one of its sender.
+    fn is_next(&self, input: &Input) -> bool
+        ensures { result ≡ is_next self.now input.now }
+    {
+        match input {
+            Input::Deliver { from, envelope } => { envelope.number == self.taken[from.index()] + 1 }
+            _ => true,
+        }
+    }
+
+    /// How far the messages go that its permanent checkpoint has, and which no rollback undoes: of each process the greatest
+    /// label that it received, and the greatest one that it sent.
+    pub fn permanent(&self) -> &Reach
+        ensures sent { (y : NodeState) → ShowsLinks self.now y →
+            result.now.sent ≡ greatest (sent_labels (histories y.calls).permanent) }
+        ensures received { (y : NodeState) (q : ℕ) → ShowsLinks self.now y → q < 64 →
+            slice_index result.now.received q
+            ≡ greatest (receiveds q (histories y.calls).permanent) }
+    {
+        self.reaches.permanent()
+    }
+
     /// The clock of a step that takes a parcel with this clock.
     fn next_clock(&self, came: u64) -> Result<u64, NodeFault>
         ensures ok { IfOk result (λ clock. clock ≡ max self.now.clock came + 1) }
         ensures few { IfOk result (λ clock. clock < 2 ^ 64 - 1) }
-        ensures err { IfErr result (λ f. (f ≡ fault.ClockSpent) × (2 ^ 64 - 2 ≤ max self.now.clock came)) }
+        ensures err { IfErr result (λ f.
+            (f ≡ fault.ClockSpent) × (2 ^ 64 - 2 ≤ max self.now.clock came)) }
     {
         let latest = self.clock.max(came);
         if latest >= MOST {
@@ -152,8 +197,12 @@ impl Node {
         requires few { clock < 2 ^ 64 - 1 }
         ensures manager { self.new.manager ≡ self.old.manager }
         ensures clock { self.new.clock ≡ clock }
-        ensures sent { (q : ℕ) → q < 64 → slice_index self.new.sent q ≡ slice_index self.old.sent q + length (put_to effects.parcels q) }
+        ensures sent { (q : ℕ) → q < 64 →
+            slice_index self.new.sent q
+            ≡ slice_index self.old.sent q + length (put_to effects.parcels q) }
         ensures taken { self.new.taken ≡ self.old.taken }
+        ensures reaches { (calls : List Call) → HasReaches self.old.reaches calls →
+            HasReaches self.new.reaches (calls ++ calls_of effects) }
         ensures effects { result.effects ≡ effects }
         ensures told { result.clock ≡ clock }
         ensures numbers { result.numbers ≡ self.new.sent }
@@ -161,6 +210,7 @@ impl Node {
         let numbers = counted(&self.sent, &effects.parcels);
         self.clock = clock;
         self.sent = numbers;
+        self.reaches.follow(&effects);
         Output {
             clock,
             effects,
@@ -174,16 +224,20 @@ impl Node {
         ensures manager { self.new.manager ≡ self.old.manager }
         ensures clock { self.new.clock ≡ self.old.clock }
         ensures sent { self.new.sent ≡ self.old.sent }
-        ensures taken { (q : ℕ) → slice_index self.new.taken q ≡ at_one from number (slice_index self.old.taken) q }
+        ensures taken { (q : ℕ) →
+            slice_index self.new.taken q ≡ at_one from number (slice_index self.old.taken) q }
+        ensures reaches { self.new.reaches ≡ self.old.reaches }
     {
         self.taken[from.index()] = number;
     }
 
     /// It sends a message to another process; where its object is down, it refuses.
     pub fn send(&mut self, to: ProcNo, body: i64) -> Result<Output, NodeFault>
-        ensures done { (y : NodeState) → ShowsNode self.old.manager y → Speaks ((node_after y (Send to body)).state.calls) →
-            IfOk result (λ o. IsStep self.old self.new 0 (node_after y (Send to body)) o) }
-        ensures refused { (y : NodeState) → ShowsNode self.old.manager y → IsNodeRefusedAs (fault_at y (Send to body)) result }
+        ensures done { (y : NodeState) → ShowsNode self.old.manager y →
+            Speaks ((node_after y (Send to body)).state.calls) →
+            IfOk result (IsStep self.old self.new 0 y (Send to body)) }
+        ensures refused { (y : NodeState) → ShowsNode self.old.manager y →
+            IsNodeRefusedAs (fault_at y (Send to body)) result }
         ensures spent { IsErrOf result fault.ClockSpent → 2 ^ 64 - 2 ≤ self.old.clock }
         ensures taken { self.new.taken ≡ self.old.taken }
         ensures err { OnErr result (IsSameNode self.new self.old) }
@@ -196,8 +250,9 @@ impl Node {
     /// It begins an instance of a kind, or refuses: in an instance, and a checkpoint where its object can't be saved.
     pub fn begin(&mut self, alloc: Global, kind: Kind, able: bool) -> Result<Output, NodeFault>
         ensures done { (y : NodeState) → ShowsNode self.old.manager y →
-            IfOk result (λ o. IsStep self.old self.new 0 (node_after y (Begin (is_rollback_kind (Some kind)) able)) o) }
-        ensures refused { (y : NodeState) → ShowsNode self.old.manager y → IsNodeRefusedAs (fault_at y (Begin (is_rollback_kind (Some kind)) able)) result }
+            IfOk result (IsStep self.old self.new 0 y (Begin (is_rollback_kind (Some kind)) able)) }
+        ensures refused { (y : NodeState) → ShowsNode self.old.manager y →
+            IsNodeRefusedAs (fault_at y (Begin (is_rollback_kind (Some kind)) able)) result }
         ensures spent { IsErrOf result fault.ClockSpent → 2 ^ 64 - 2 ≤ self.old.clock }
         ensures taken { self.new.taken ≡ self.old.taken }
         ensures err { OnErr result (IsSameNode self.new self.old) }
@@ -209,8 +264,10 @@ impl Node {
 
     /// Its object fails; where that is down already, it refuses.
     pub fn fail(&mut self) -> Result<Output, NodeFault>
-        ensures done { (y : NodeState) → ShowsNode self.old.manager y → IfOk result (λ o. IsStep self.old self.new 0 (node_after y Fail) o) }
-        ensures refused { (y : NodeState) → ShowsNode self.old.manager y → IsNodeRefusedAs (fault_at y Fail) result }
+        ensures done { (y : NodeState) → ShowsNode self.old.manager y →
+            IfOk result (IsStep self.old self.new 0 y Fail) }
+        ensures refused { (y : NodeState) → ShowsNode self.old.manager y →
+            IsNodeRefusedAs (fault_at y Fail) result }
         ensures spent { IsErrOf result fault.ClockSpent → 2 ^ 64 - 2 ≤ self.old.clock }
         ensures taken { self.new.taken ≡ self.old.taken }
         ensures err { OnErr result (IsSameNode self.new self.old) }
@@ -222,9 +279,11 @@ impl Node {
 
     /// It takes the first message that it holds of a process, as one that comes.
     pub fn redeliver(&mut self, from: ProcNo) -> Result<Output, NodeFault>
-        ensures done { (y : NodeState) → ShowsNode self.old.manager y → Speaks ((node_after y (Held from)).state.calls) →
-            IfOk result (λ o. IsStep self.old self.new 0 (node_after y (Held from)) o) }
-        ensures refused { (y : NodeState) → ShowsNode self.old.manager y → IsNodeRefusedAs (fault_at y (Held from)) result }
+        ensures done { (y : NodeState) → ShowsNode self.old.manager y →
+            Speaks ((node_after y (Held from)).state.calls) →
+            IfOk result (IsStep self.old self.new 0 y (Held from)) }
+        ensures refused { (y : NodeState) → ShowsNode self.old.manager y →
+            IsNodeRefusedAs (fault_at y (Held from)) result }
         ensures spent { IsErrOf result fault.ClockSpent → 2 ^ 64 - 2 ≤ self.old.clock }
         ensures taken { self.new.taken ≡ self.old.taken }
         ensures err { OnErr result (IsSameNode self.new self.old) }
@@ -244,11 +303,16 @@ impl Node {
         envelope: &Envelope,
     ) -> Result<Taken, NodeFault>
         ensures next { IfOk result (λ t. TakesNext self.old self.new from envelope.now.number t) }
-        ensures done { (y : NodeState) → ShowsNode self.old.manager y → Speaks ((node_after y (Comes from able envelope.now.parcel)).state.calls) →
-            IfOk result (λ t. IsUntaken t (IsStep self.old self.new envelope.now.clock (node_after y (Comes from able envelope.now.parcel)))) }
-        ensures refused { (y : NodeState) → ShowsNode self.old.manager y → IsParcelRefusedAs (fault_at y (Comes from able envelope.now.parcel)) result }
-        ensures spent { IsErrOf result fault.ClockSpent → 2 ^ 64 - 2 ≤ max self.old.clock envelope.now.clock }
-        ensures gap { (n : ℕ) → IsErrOf result (fault.Gap n) → (n ≡ slice_index self.old.taken from + 1) × (n < envelope.now.number) }
+        ensures done { let x = Comes from able envelope.now.parcel in
+            (y : NodeState) → ShowsNode self.old.manager y →
+            Speaks ((node_after y x).state.calls) →
+            IfOk result (λ t. IsUntaken t (IsStep self.old self.new envelope.now.clock y x)) }
+        ensures refused { (y : NodeState) → ShowsNode self.old.manager y →
+            IsParcelRefusedAs (fault_at y (Comes from able envelope.now.parcel)) result }
+        ensures spent { IsErrOf result fault.ClockSpent →
+            2 ^ 64 - 2 ≤ max self.old.clock envelope.now.clock }
+        ensures gap { (n : ℕ) → IsErrOf result (fault.Gap n) →
+            (n ≡ slice_index self.old.taken from + 1) × (n < envelope.now.number) }
         ensures err { OnErr result (IsSameNode self.new self.old) }
     {
         let next = self.taken[from.index()] + 1;
@@ -269,7 +333,8 @@ impl Node {
 /// These counts, with one more for each process for which there is a parcel.
 fn counted(before: &[u64; 64], parcels: &Parcels) -> [u64; 64]
     requires { (q : ℕ) → slice_index before.now q < 2 ^ 64 - 1 }
-    ensures { (q : ℕ) → q < 64 → slice_index result q ≡ slice_index before.now q + length (put_to parcels.now q) }
+    ensures { (q : ℕ) → q < 64 →
+        slice_index result q ≡ slice_index before.now q + length (put_to parcels.now q) }
 {
     let mut counts = *before;
     for number in 0..ProcNo::COUNT {

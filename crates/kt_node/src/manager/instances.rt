@@ -7,7 +7,7 @@ ghost use Rattle.kt_meaning.specs.Past.{is_rollback_kind};
 ghost use Rattle.kt_tables.specs.Peers.{IsCohort};
 ghost use Rattle.kt_machine.specs.Values.{closing as acts_of_closing};
 ghost use Rattle.kt_process.specs.ProcessStates.{is_ready};
-ghost use Rattle.kt_process.specs.Shown.{IsSeenAs, BeginsAs, HearsAs, goes_on};
+ghost use Rattle.kt_process.specs.Shown.{IsSeenAs, goes_on};
 ghost use Rattle.kt_net.specs.Nodes.{NodeState, Begin, nothing};
 ghost use Rattle.kt_net.specs.NodeJoining.{next_name};
 ghost use Rattle.kt_net.specs.NodeClosing.{closing, settling};
@@ -15,8 +15,8 @@ ghost use Rattle.kt_net.specs.NodeSteps.{node_after, asked, taking};
 ghost use Rattle.kt_net.specs.declared.parcels.NodeParcel.TheVariants as put;
 ghost use Rattle.kt_system.specs.ShownActs.{act_shown, acts_shown, acts_joining};
 ghost use Rattle.kt_system.specs.Shown.{begin_verb};
-ghost use Rattle.kt_node.specs.Managers.{HoldsFor, ShowsNode, HasBack, IsSameManager, IsTurned, process_of, number_for, after_closing};
-ghost use Rattle.kt_node.specs.Turns.{able_in, marks_in, CanGoOn, CanFollow, named_cause, unwilling_row, joined_row, joined_in, gone_on};
+ghost use Rattle.kt_node.specs.Managers.{HoldsFor, ShowsNode, HasBack, IsSameManager, IsTurned, process_of, after_closing};
+ghost use Rattle.kt_node.specs.Turns.{BeginsIn, HearsIn, CanGoOn, CanFollow, named_cause, unwilling_row, joined_row, joined_in, gone_on};
 ghost use Rattle.kt_node.specs.Effects.{IsDone, rows_told};
 ghost use Rattle.kt_node.specs.Faults.{fault_at, IsRefusedAs};
 
@@ -43,8 +43,11 @@ pub(super) struct Ask {
 impl Manager {
     /// It begins an instance of a kind, or refuses: in an instance, and a checkpoint where its object can't be saved.
     pub fn begin(&mut self, alloc: Global, kind: Kind, able: bool) -> Result<Effects, ManagerFault>
-        ensures done { (y : NodeState) → ShowsNode self.old y → IfOk result (λ e. IsDone self.new e (node_after y (Begin (is_rollback_kind (Some kind)) able))) }
-        ensures refused { (y : NodeState) → ShowsNode self.old y → IsRefusedAs (fault_at y (Begin (is_rollback_kind (Some kind)) able)) result }
+        ensures done { (y : NodeState) → ShowsNode self.old y →
+            IfOk result (λ e.
+            IsDone self.new e (node_after y (Begin (is_rollback_kind (Some kind)) able))) }
+        ensures refused { (y : NodeState) → ShowsNode self.old y →
+            IsRefusedAs (fault_at y (Begin (is_rollback_kind (Some kind)) able)) result }
         ensures err { OnErr result (IsSameManager self.new self.old) }
     {
         let Some(count) = Count::new(self.begun + 1) else {
@@ -64,7 +67,7 @@ impl Manager {
         ensures err { OnErr result (IsSameManager self.new self.old) }
         ensures can { IfOk result (λ action. CanFollow self.new action) }
         ensures begins { (y : NodeState) → ShowsNode self.old y → IfOk result (λ action.
-            BeginsAs kind (able_in kind able) y.processes 1 (marks_in kind y) (process_of y) self.new.process action) }
+            BeginsIn kind able y self.new.process action) }
     {
         match kind {
             Kind::Checkpoint => {
@@ -82,8 +85,9 @@ impl Manager {
     fn begun(&mut self, inst: &InstName, kind: Kind, action: Action) -> Effects
         requires left { self.old.begun + 1 < 2 ^ 48 }
         requires can { CanFollow self.old action }
-        ensures { (y : NodeState) (able : Bool) → HoldsFor self.old y → self.old.inst ≡ y.inst → inst.now ≡ next_name y →
-            BeginsAs kind (able_in kind able) y.processes 1 (marks_in kind y) (process_of y) self.old.process action →
+        ensures { (y : NodeState) (able : Bool) → HoldsFor self.old y → self.old.inst ≡ y.inst →
+            inst.now ≡ next_name y →
+            BeginsIn kind able y self.old.process action →
             IsDone self.new result (node_after y (Begin (is_rollback_kind (Some kind)) able)) }
     {
         match action {
@@ -107,7 +111,8 @@ impl Manager {
     ) -> Result<Effects, Memory>
         requires { from < self.old.size }
         ensures done { (y : NodeState) → ShowsNode self.old y →
-            IfOk result (λ e. IsDone self.new e (taking y from able (put.Ask ask.now.inst ask.now.kind ask.now.label))) }
+            IfOk result (λ e. IsDone self.new e
+            (taking y from able (put.Ask ask.now.inst ask.now.kind ask.now.label))) }
         ensures err { OnErr result (IsSameManager self.new self.old) }
     {
         let action = self.hear(alloc, from, ask, able)?;
@@ -121,7 +126,7 @@ impl Manager {
         ensures err { OnErr result (IsSameManager self.new self.old) }
         ensures can { IfOk result (λ action. CanFollow self.new action) }
         ensures hears { (y : NodeState) → ShowsNode self.old y → IfOk result (λ action.
-            HearsAs ask.now.kind (able_in ask.now.kind able) y.processes from (number_for y.inst ask.now.inst) ask.now.label (marks_in ask.now.kind y) (process_of y) self.new.process action) }
+            HearsIn ask.now.kind able from ask.now.inst ask.now.label y self.new.process action) }
     {
         match ask.kind {
             Kind::Checkpoint => self.ask_to_save(alloc, from, ask, able),
@@ -142,7 +147,8 @@ impl Manager {
         ensures err { OnErr result (IsSameManager self.new self.old) }
         ensures can { IfOk result (λ action. CanFollow self.new action) }
         ensures hears { (y : NodeState) → ShowsNode self.old y → IfOk result (λ action.
-            HearsAs kind.Checkpoint able y.processes from (number_for y.inst ask.now.inst) ask.now.label (marks_in kind.Checkpoint y) (process_of y) self.new.process action) }
+            HearsIn kind.Checkpoint able from ask.now.inst ask.now.label y
+            self.new.process action) }
     {
         let number = self.number_for(&ask.inst);
         if let Some(action) = self.process.answer_to_save(able, from, number, ask.label) {
@@ -160,7 +166,7 @@ impl Manager {
         ensures err { OnErr result (IsSameManager self.new self.old) }
         ensures can { IfOk result (λ action. CanFollow self.new action) }
         ensures hears { (y : NodeState) → ShowsNode self.old y → IfOk result (λ action.
-            HearsAs kind.Rollback true y.processes from (number_for y.inst ask.now.inst) ask.now.label (marks_in kind.Rollback y) (process_of y) self.new.process action) }
+            HearsIn kind.Rollback true from ask.now.inst ask.now.label y self.new.process action) }
     {
         let number = self.number_for(&ask.inst);
         self.process.hear_ask_to_roll(from, number, ask.label)
@@ -170,8 +176,9 @@ impl Manager {
     fn answer(&mut self, from: ProcNo, ask: &Ask, action: Action) -> Effects
         requires { CanFollow self.old action }
         ensures { (y : NodeState) (able : Bool) → HoldsFor self.old y → self.old.inst ≡ y.inst →
-            HearsAs ask.now.kind (able_in ask.now.kind able) y.processes from (number_for y.inst ask.now.inst) ask.now.label (marks_in ask.now.kind y) (process_of y) self.old.process action →
-            IsDone self.new result (taking y from able (put.Ask ask.now.inst ask.now.kind ask.now.label)) }
+            HearsIn ask.now.kind able from ask.now.inst ask.now.label y self.old.process action →
+            IsDone self.new result
+            (taking y from able (put.Ask ask.now.inst ask.now.kind ask.now.label)) }
     {
         match action {
             Action::Reply {
@@ -217,9 +224,11 @@ impl Manager {
         goes: Then,
     ) -> Effects
         requires { CanGoOn self.old asks goes }
-        ensures { (y : NodeState) (label : ℕ → ℕ) → HoldsFor self.old y → IsSeenAs self.old.process (process_of y) → y.inst ≡ Some inst.now →
+        ensures { (y : NodeState) (label : ℕ → ℕ) → HoldsFor self.old y →
+            IsSeenAs self.old.process (process_of y) → y.inst ≡ Some inst.now →
             IsCohort asks y.part.asked label → goes ≡ goes_on y.part → y.part.willing ≡ true →
-            IsDone self.new result (settling inst.now (joined_in inst.now kind label (rows_told (began ∷ [])) y)) }
+            IsDone self.new result
+            (settling inst.now (joined_in inst.now kind label (rows_told (began ∷ [])) y)) }
     {
         self.inst = Some(*inst);
         let row = Some(joining_row(inst, kind));
@@ -267,7 +276,8 @@ impl Manager {
 
     /// A reply comes: it counts where it is awaited, and the last one is followed by its own reply, or by the decision.
     pub(super) fn take_reply(&mut self, inst: &InstName, willing: bool) -> Result<Effects, Memory>
-        ensures done { (y : NodeState) (q : ℕ) (able : Bool) → ShowsNode self.old y → IfOk result (λ e. IsDone self.new e (taking y q able (put.Reply inst.now willing))) }
+        ensures done { (y : NodeState) (q : ℕ) (able : Bool) → ShowsNode self.old y →
+            IfOk result (λ e. IsDone self.new e (taking y q able (put.Reply inst.now willing))) }
         ensures err { OnErr result (IsSameManager self.new self.old) }
     {
         if !self.is_in(inst) {
@@ -281,7 +291,8 @@ impl Manager {
     /// What follows from a reply.
     fn go_on(&mut self, inst: &InstName, action: &Action) -> Effects
         requires { is_ready self.old.process.side ≡ true → HasBack self.old }
-        ensures { (y : NodeState) → ShowsNode self.old y → (y.inst ≡ None → ⊥) → IsDone self.new result (gone_on inst.now y action.now) }
+        ensures { (y : NodeState) → ShowsNode self.old y → (y.inst ≡ None → ⊥) →
+            IsDone self.new result (gone_on inst.now y action.now) }
     {
         match action {
             Action::Reply {
@@ -315,7 +326,8 @@ impl Manager {
 
     /// A decision comes: that of its instance closes it.
     pub(super) fn take_decision(&mut self, inst: &InstName, commit: bool) -> Result<Effects, Memory>
-        ensures done { (y : NodeState) (q : ℕ) (able : Bool) → ShowsNode self.old y → IfOk result (λ e. IsDone self.new e (taking y q able (put.Decide inst.now commit))) }
+        ensures done { (y : NodeState) (q : ℕ) (able : Bool) → ShowsNode self.old y →
+            IfOk result (λ e. IsDone self.new e (taking y q able (put.Decide inst.now commit))) }
         ensures err { OnErr result (IsSameManager self.new self.old) }
     {
         if !self.is_in(inst) {
@@ -329,7 +341,8 @@ impl Manager {
     fn close(&mut self, inst: &InstName, commit: bool, decided: Option<NamedEvent>) -> Effects
         requires { is_ready self.old.process.side ≡ true → HasBack self.old }
         ensures { (y : NodeState) → ShowsNode self.old y → (y.inst ≡ None → ⊥) →
-            IsDone self.new result (closing inst.now commit (record (nothing y) { rows = rows_told (decided ∷ []) })) }
+            IsDone self.new result
+            (closing inst.now commit (record (nothing y) { rows = rows_told (decided ∷ []) })) }
     {
         let act = self.closing_act(commit);
         let to = self.leave(commit);
@@ -366,7 +379,8 @@ impl Manager {
     fn settle_kept(&mut self, commit: bool)
         requires { is_ready self.old.process.side ≡ true → HasBack self.old }
         ensures process { self.new.process ≡ self.old.process }
-        ensures settled { (y : NodeState) → ShowsNode self.old y → (y.inst ≡ None → ⊥) → HoldsFor self.new (after_closing commit y) }
+        ensures settled { (y : NodeState) → ShowsNode self.old y → (y.inst ≡ None → ⊥) →
+            HoldsFor self.new (after_closing commit y) }
     {
         if !commit {
             return;
@@ -384,8 +398,10 @@ impl Manager {
     /// It leaves its instance, and answers whom it asked.
     fn leave(&mut self, commit: bool) -> ProcSet
         requires { is_ready self.old.process.side ≡ true → HasBack self.old }
-        ensures left { (y : NodeState) → ShowsNode self.old y → (y.inst ≡ None → ⊥) → ShowsNode self.new (after_closing commit y) }
-        ensures tell { (y : NodeState) (q : ℕ) → ShowsNode self.old y → has result q ≡ y.part.asked q }
+        ensures left { (y : NodeState) → ShowsNode self.old y → (y.inst ≡ None → ⊥) →
+            ShowsNode self.new (after_closing commit y) }
+        ensures tell { (y : NodeState) (q : ℕ) → ShowsNode self.old y →
+            has result q ≡ y.part.asked q }
     {
         self.settle_kept(commit);
         self.inst = None;

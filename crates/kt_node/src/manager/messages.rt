@@ -26,9 +26,11 @@ use kt_spacetime::{Count, NamedCause, NamedEvent};
 impl Manager {
     /// It sends a message to another process; where its object is down, it refuses.
     pub fn send(&mut self, to: ProcNo, body: i64) -> Result<Effects, ManagerFault>
-        ensures done { (y : NodeState) → ShowsNode self.old y → Speaks ((node_after y (Send to body)).state.calls) →
+        ensures done { (y : NodeState) → ShowsNode self.old y →
+            Speaks ((node_after y (Send to body)).state.calls) →
             IfOk result (λ e. IsDone self.new e (node_after y (Send to body))) }
-        ensures refused { (y : NodeState) → ShowsNode self.old y → IsRefusedAs (fault_at y (Send to body)) result }
+        ensures refused { (y : NodeState) → ShowsNode self.old y →
+            IsRefusedAs (fault_at y (Send to body)) result }
         ensures err { OnErr result (self.new ≡ self.old) }
     {
         self.meet(to)?;
@@ -54,7 +56,8 @@ impl Manager {
 
     /// Its object fails; where that is down already, it refuses.
     pub fn fail(&mut self) -> Effects
-        ensures { (y : NodeState) → ShowsNode self.old y → IsDone self.new result (node_after y Fail) }
+        ensures { (y : NodeState) → ShowsNode self.old y →
+            IsDone self.new result (node_after y Fail) }
     {
         if !self.process.is_up() {
             return refusal(Verb::Fail, NamedCause::Down);
@@ -69,9 +72,11 @@ impl Manager {
 
     /// It takes the first message that it holds of a process, as one that comes.
     pub fn take_held(&mut self, from: ProcNo) -> Result<Effects, ManagerFault>
-        ensures done { (y : NodeState) → ShowsNode self.old y → Speaks ((node_after y (Held from)).state.calls) →
+        ensures done { (y : NodeState) → ShowsNode self.old y →
+            Speaks ((node_after y (Held from)).state.calls) →
             IfOk result (λ e. IsDone self.new e (node_after y (Held from))) }
-        ensures refused { (y : NodeState) → ShowsNode self.old y → IsRefusedAs (fault_at y (Held from)) result }
+        ensures refused { (y : NodeState) → ShowsNode self.old y →
+            IsRefusedAs (fault_at y (Held from)) result }
         ensures err { OnErr result (IsSameManager self.new self.old) }
     {
         self.meet(from)?;
@@ -87,11 +92,14 @@ impl Manager {
     }
 
     /// The first message that it holds of a process.
-    fn first_held(&self, from: ProcNo) -> Option<(Count, i64)>
+    pub(super) fn first_held(&self, from: ProcNo) -> Option<(Count, i64)>
         requires { from < self.now.size }
-        ensures some { IfSome result (λ m. (y : NodeState) → ShowsNode self.now y → y.held from ≡ sent.App m.0 m.1 ∷ drop 1 (y.held from)) }
-        ensures taken { IfSome result (λ m. (y : NodeState) → ShowsNode self.now y → first_held (y.held from) ≡ None) }
-        ensures none { IfNone result ((y : NodeState) → ShowsNode self.now y → first_held (y.held from) ≡ Some fault.HoldsNone) }
+        ensures some { IfSome result (λ m. (y : NodeState) → ShowsNode self.now y →
+            y.held from ≡ sent.App m.0 m.1 ∷ drop 1 (y.held from)) }
+        ensures taken { IfSome result (λ m. (y : NodeState) → ShowsNode self.now y →
+            first_held (y.held from) ≡ None) }
+        ensures none { IfNone result ((y : NodeState) → ShowsNode self.now y →
+            first_held (y.held from) ≡ Some fault.HoldsNone) }
     {
         match self.held.front(from, self.me) {
             Some(parcel) => message_of(parcel),
@@ -103,7 +111,8 @@ impl Manager {
     fn make_room_to_keep(&mut self, from: ProcNo) -> Result<(), Memory>
         requires { from < self.old.size }
         ensures same { IsSameManager self.new self.old }
-        ensures room { OnOk result (self.old.process.up ≡ true → 1 ≤ spare_of self.new.kept from self.old.me) }
+        ensures room { OnOk result (self.old.process.up ≡ true →
+            1 ≤ spare_of self.new.kept from self.old.me) }
     {
         if self.process.is_up() {
             return self.kept.reserve_many(from, self.me, 1);
@@ -115,7 +124,9 @@ impl Manager {
     fn receive(&mut self, from: ProcNo, label: Count, body: i64) -> Effects
         requires from { from < self.old.size }
         requires room { self.old.process.up ≡ true → 1 ≤ spare_of self.old.kept from self.old.me }
-        ensures { (y : NodeState) → ShowsNode self.old y → Speaks ((arriving y from label body).state.calls) → IsDone self.new result (arriving y from label body) }
+        ensures { (y : NodeState) → ShowsNode self.old y →
+            Speaks ((arriving y from label body).state.calls) →
+            IsDone self.new result (arriving y from label body) }
     {
         if !self.process.is_up() {
             return Effects::told(NamedEvent::Dropped { from, label });
@@ -138,7 +149,8 @@ impl Manager {
         body: i64,
     ) -> Result<Effects, Memory>
         requires { from < self.old.size }
-        ensures done { (y : NodeState) (able : Bool) → ShowsNode self.old y → Speaks ((taking y from able (sent.App label body)).state.calls) →
+        ensures done { (y : NodeState) (able : Bool) → ShowsNode self.old y →
+            Speaks ((taking y from able (sent.App label body)).state.calls) →
             IfOk result (λ e. IsDone self.new e (taking y from able (sent.App label body))) }
         ensures err { OnErr result (IsSameManager self.new self.old) }
     {
@@ -155,7 +167,8 @@ impl Manager {
 
 /// A command that is refused.
 pub(super) fn refusal(verb: Verb, cause: NamedCause) -> Effects
-    ensures { (w : ManagerState) (y : NodeState) → ShowsNode w y → IsDone w result (refusing y verb cause) }
+    ensures { (w : ManagerState) (y : NodeState) → ShowsNode w y →
+        IsDone w result (refusing y verb cause) }
 {
     Effects::told(NamedEvent::Refused { verb, cause })
 }
@@ -164,7 +177,8 @@ pub(super) fn refusal(verb: Verb, cause: NamedCause) -> Effects
 fn message_of(parcel: &Parcel) -> Option<(Count, i64)>
     ensures some { IfSome result (λ m. erased_parcel no_name parcel.now ≡ sent.App m.0 m.1) }
     ensures taken { IfSome result (λ m. held_fault (erased_parcel no_name parcel.now) ≡ None) }
-    ensures none { IfNone result (held_fault (erased_parcel no_name parcel.now) ≡ Some fault.HoldsNone) }
+    ensures none { IfNone result
+        (held_fault (erased_parcel no_name parcel.now) ≡ Some fault.HoldsNone) }
 {
     match parcel {
         Parcel::App { label, body, .. } => match Count::new(label.get()) {

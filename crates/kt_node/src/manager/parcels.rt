@@ -25,9 +25,11 @@ impl Manager {
         able: bool,
         parcel: &NodeParcel,
     ) -> Result<Effects, ManagerFault>
-        ensures done { (y : NodeState) → ShowsNode self.old y → Speaks ((node_after y (Comes from able parcel.now)).state.calls) →
+        ensures done { (y : NodeState) → ShowsNode self.old y →
+            Speaks ((node_after y (Comes from able parcel.now)).state.calls) →
             IfOk result (λ e. IsDone self.new e (node_after y (Comes from able parcel.now))) }
-        ensures refused { (y : NodeState) → ShowsNode self.old y → IsRefusedAs (fault_at y (Comes from able parcel.now)) result }
+        ensures refused { (y : NodeState) → ShowsNode self.old y →
+            IsRefusedAs (fault_at y (Comes from able parcel.now)) result }
         ensures err { OnErr result (IsSameManager self.new self.old) }
     {
         self.meet(from)?;

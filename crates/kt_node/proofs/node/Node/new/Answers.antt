@@ -17,3 +17,6 @@ returns-clause-sent c = λ q. zero_each 64 q
 
 pub returns-clause-taken : goal.returns-clause-taken
 returns-clause-taken c = λ q. zero_each 64 q
+
+pub returns-clause-shows : goal.returns-clause-shows
+returns-clause-shows c = record { manager = c.in_ok-new.ensures.shows; reaches = c.none.ensures }

@@ -7,7 +7,7 @@ use Rattle.kt_net.specs.NodeSteps.{node_after}
 use Rattle.kt_node.specs.Effects.{IsDone}
 use Rattle.kt_node.specs.Links.{NodeLinks}
 use Rattle.kt_node.specs.Managers.{ShowsNode}
-use Rattle.kt_node.proofs.Counts.{step_of}
+use Rattle.kt_node.proofs.Counts.{step_of, inside_reaches}
 use Rattle.kt_node.proofs.node.Node.send.Goals as goal
 
 pub returns-clause-done : goal.returns-clause-done
@@ -16,4 +16,5 @@ returns-clause-done c = λ y h speaks.
     let e = c.in_ok-effects.effects in
     let done = subst (λ (b : ℤ). Speaks ((node_after y (Send c.args.to b)).state.calls) → IsDone c.send.new.self e (node_after y (Send c.args.to b))) (to_z-of_z w64 c.args.body c.ranges.body) (c.in_ok-effects.ensures.done y i) in
     let put = c.put.ensures in
-    step_of c.args.self.now c.put.new.self c.send.new.self c.self.inside.sent 0 c.in_ok-clock.clock (node_after y (Send c.args.to c.args.body)) e c.put.result (done speaks) c.in_ok-clock.ensures.ok put.manager put.clock (ap (λ (w : NodeLinks). w.sent) c.self.view_is) put.sent put.effects put.told put.numbers
+    step_of c.args.self.now c.put.new.self c.send.new.self c.self.inside.sent 0 c.in_ok-clock.clock y (Send c.args.to c.args.body) e c.put.result (done speaks) c.in_ok-clock.ensures.ok put.manager put.clock (ap (λ (w : NodeLinks). w.sent) c.self.view_is) put.sent put.effects put.told put.numbers
+    (λ r. put.reaches y.calls (inside_reaches c.args.self.now c.self.inside.reaches y.calls (ap (λ (w : NodeLinks). w.reaches) c.self.view_is) r))

@@ -1,0 +1,131 @@
+//! What a step needs of the object.
+
+ghost use Rattle.std.specs.Prelude.{◌≡◌, ◌<◌, ◌&&◌, ℤ, Bool, true, is_none};
+ghost use Rattle.kt_process.specs.ProcessStates.{inst_of};
+ghost use Rattle.kt_net.specs.Nodes.{NodeState, Send, Begin, Held, Comes};
+ghost use Rattle.kt_net.specs.NodeLooks.{asks_to_save, would_save};
+ghost use Rattle.kt_net.specs.declared.parcels.NodeParcel.{NodeParcel as Taken};
+ghost use Rattle.kt_node.specs.Managers.{ShowsNode};
+ghost use Rattle.kt_node.specs.Faults.{stranger, fault_at};
+ghost use Rattle.kt_node.specs.Looks.{input_of, look_of};
+
+use super::Manager;
+use crate::inputs::Input;
+use kt_base::{Kind, ProcNo};
+use kt_net::NodeParcel;
+use kt_plan::Look;
+use kt_spacetime::Count;
+
+impl Manager {
+    /// What the step at an input needs of its object: that this is saved, or nothing; idle where there is no step.
+    pub fn look(&self, input: &Input) -> Look
+        ensures { (y : NodeState) → ShowsNode self.now y →
+            result ≡ look_of y (input_of true input.now) }
+    {
+        if !self.may_step(input) {
+            return Look::Idle;
+        }
+        if self.would_save(input) {
+            Look::NeedsSave
+        } else {
+            Look::Plain
+        }
+    }
+
+    /// Whether it does not refuse an input, but for want of memory.
+    fn may_step(&self, input: &Input) -> bool
+        ensures { (y : NodeState) → ShowsNode self.now y →
+            result ≡ is_none (fault_at y (input_of true input.now)) }
+    {
+        match input {
+            Input::Send { to, .. } => self.may_send(*to),
+            Input::Begin(_) => self.may_begin(),
+            Input::Fail => true,
+            Input::Redeliver(from) => self.may_take_held(*from),
+            Input::Deliver { from, .. } => self.may_take(*from),
+        }
+    }
+
+    /// Whether an input makes it take a checkpoint, if its object can be saved.
+    fn would_save(&self, input: &Input) -> bool
+        ensures { (y : NodeState) → ShowsNode self.now y →
+            is_none (fault_at y (input_of true input.now)) ≡ true →
+            result ≡ would_save y (input_of true input.now) }
+    {
+        match input {
+            Input::Begin(Kind::Checkpoint) => self.may_save(),
+            Input::Deliver { from, envelope } => self.saves_at(*from, &envelope.parcel),
+            Input::Begin(Kind::Rollback) | Input::Send { .. } | Input::Fail | Input::Redeliver(_) =>
+                false,
+        }
+    }
+
+    /// Whether it is in no instance, and its object is up.
+    fn may_save(&self) -> bool
+        ensures process { result ≡
+            (is_none (inst_of self.now.process.side) && self.now.process.up) }
+        ensures node { (y : NodeState) → ShowsNode self.now y → result ≡ (is_none y.inst && y.up) }
+    {
+        self.process.in_inst().is_none() && self.process.is_up()
+    }
+
+    /// Whether a parcel of a process makes it take a checkpoint, if its object can be saved.
+    fn saves_at(&self, from: ProcNo, parcel: &NodeParcel) -> bool
+        ensures { (y : NodeState) → ShowsNode self.now y → from < y.processes →
+            result ≡ ((is_none y.inst && y.up) && asks_to_save y from parcel.now) }
+    {
+        match *parcel {
+            NodeParcel::Ask {
+                kind: Kind::Checkpoint,
+                label,
+                ..
+            } => {
+                from.index() < self.size
+                    && self.may_save()
+                    && self.process.joins_checkpoint(true, from, label)
+            }
+            _ => false,
+        }
+    }
+
+    /// Whether another process is there.
+    fn is_other(&self, q: ProcNo) -> bool
+        ensures within { result ≡ true → q < self.now.size }
+        ensures other { (y : NodeState) → ShowsNode self.now y → result ≡ is_none (stranger y q) }
+    {
+        q.index() < self.size && q.get() != self.me.get()
+    }
+
+    /// Whether it may send to a process.
+    fn may_send(&self, to: ProcNo) -> bool
+        ensures { (y : NodeState) (body : ℤ) → ShowsNode self.now y →
+            result ≡ is_none (fault_at y (Send to body)) }
+    {
+        let is_spent = self.process.is_up() && self.process.is_spent();
+        self.is_other(to) && self.inst.is_none() && !is_spent
+    }
+
+    /// Whether a count is left for an instance that it begins.
+    fn may_begin(&self) -> bool
+        ensures { (y : NodeState) (roll able : Bool) → ShowsNode self.now y →
+            result ≡ is_none (fault_at y (Begin roll able)) }
+    {
+        Count::new(self.begun + 1).is_some()
+    }
+
+    /// Whether it may take a message that it holds of a process.
+    fn may_take_held(&self, from: ProcNo) -> bool
+        ensures { (y : NodeState) → ShowsNode self.now y →
+            result ≡ is_none (fault_at y (Held from)) }
+    {
+        self.is_other(from) && !self.is_in_rollback() && self.first_held(from).is_some()
+    }
+
+    /// Whether it may take a parcel of a process.
+    fn may_take(&self, from: ProcNo) -> bool
+        ensures { (y : NodeState) (able : Bool) (parcel : Taken) → ShowsNode self.now y →
+            result ≡ is_none (fault_at y (Comes from able parcel)) }
+    {
+        self.is_other(from) && (self.is_in_rollback() || !self.holds(from))
+    }
+}
