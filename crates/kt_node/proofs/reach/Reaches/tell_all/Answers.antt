@@ -1,4 +1,4 @@
-use Rattle.std.proofs.Common.{List, ◌+◌, ◌++◌, take, sym, subst, rules}
+use Rattle.std.proofs.Common.{◌+◌, ◌++◌, take, sym, subst, rules}
 use Rattle.std.specs.List.{flat_map}
 use Rattle.kt_node.specs.declared.reach.Reaches.{Reaches}
 use Rattle.kt_node.specs.Effects.{rows_told}
