@@ -17,7 +17,7 @@ use Rattle.kt_meaning.proofs.LegalLogs.{kept, legal_take, next_unbroken}
 use Rattle.kt_meaning.proofs.Lists.{get_drop, get_take, any_at, deed_place, has_from_place}
 use Rattle.kt_meaning.proofs.Places.{Comes, old, sent, received, comes, rowed, one_message}
 use Rattle.kt_meaning.proofs.RowRules.{both, neither, may_receive}
-use Rattle.kt_picture.specs.declared.shown.Shown.{Shown}
+use Rattle.kt_picture.specs.declared.window.Shown.{Shown}
 use Rattle.kt_picture.specs.Arrows.{StaysReceived, has_arrow}
 use Rattle.kt_picture.specs.Fates.{is_send_undone, has_no_receive, receives, is_receive_undone, is_sent_in_transit}
 use Rattle.kt_picture.specs.Marks.{arrow_at, short_arrow}

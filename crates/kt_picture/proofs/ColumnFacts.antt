@@ -13,7 +13,7 @@ use Rattle.kt_meaning.specs.Legal.{IsLegal}
 use Rattle.kt_meaning.specs.Messages.{row_at}
 use Rattle.kt_meaning.proofs.Items.{item_there, some_same}
 use Rattle.kt_meaning.proofs.Lists.{get_drop}
-use Rattle.kt_picture.specs.declared.shown.CutMark.{CutMark}
+use Rattle.kt_picture.specs.declared.window.CutMark.{CutMark}
 use Rattle.kt_picture.specs.Places.{columns_before, IsLastPermanent, IsPermanentColumn, commits}
 use Rattle.kt_picture.specs.KnownAtRow.{KnownAtRow, seen_before, seen_after, taken_after, places_after, place_after, cut_in, cut_rows}
 use Rattle.kt_picture.specs.Window.{seen_at}

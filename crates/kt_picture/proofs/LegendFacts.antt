@@ -9,7 +9,7 @@ use Rattle.std.proofs.lemmas.List.Filters.{length-filter_both}
 use Rattle.kt_meaning.proofs.Items.{take_item}
 use Rattle.kt_picture.specs.declared.legend.Sign.{Sign}
 use Rattle.kt_picture.specs.declared.legend.TheConstants.{SIGNS}
-use Rattle.kt_picture.specs.declared.mark.Mark.{Mark}
+use Rattle.kt_picture.specs.declared.words.Mark.{Mark}
 use Rattle.kt_picture.specs.Legend.{legend_from, sign_at}
 use Rattle.kt_picture.specs.Texts.{mark_text}
 

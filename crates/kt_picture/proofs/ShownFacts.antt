@@ -12,7 +12,7 @@ use Rattle.kt_meaning.specs.Messages.{row_at}
 use Rattle.kt_meaning.proofs.LegalLogs.{rows_length}
 use Rattle.kt_meaning.proofs.Lists.{get_drop}
 use Rattle.kt_meaning.proofs.Items.{some_same}
-use Rattle.kt_picture.specs.declared.shown.Shown.{Shown}
+use Rattle.kt_picture.specs.declared.window.Shown.{Shown}
 use Rattle.kt_picture.specs.Fates.{is_message_undone, is_receive_undone, is_sent_in_transit, joined_decision}
 use Rattle.kt_picture.specs.KnownAtRow.{KnownAtRow, seen_before, seen_after, shown_at, shown_rows}
 use Rattle.kt_picture.specs.Window.{seen_at, shown_of}

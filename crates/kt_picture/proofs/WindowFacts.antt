@@ -12,10 +12,10 @@ use Rattle.kt_meaning.proofs.LegalLogs.{past_push, rows_length}
 use Rattle.kt_walk.specs.WalkOf.{WalkOf}
 use Rattle.kt_walk.specs.WalkParts.{WalkParts}
 use Rattle.kt_picture.specs.declared.entry.Entry.{Entry}
-use Rattle.kt_picture.specs.declared.known.Known.{Known}
-use Rattle.kt_picture.specs.declared.shown.Shown.{Shown}
-use Rattle.kt_picture.specs.declared.shown.CutMark.{CutMark}
-use Rattle.kt_picture.specs.declared.shown.Stretch.{Stretch}
+use Rattle.kt_picture.specs.declared.window.Known.{Known}
+use Rattle.kt_picture.specs.declared.window.Shown.{Shown}
+use Rattle.kt_picture.specs.declared.window.CutMark.{CutMark}
+use Rattle.kt_picture.specs.declared.window.Stretch.{Stretch}
 use Rattle.kt_picture.specs.Followed.{event_of, plain_of, plain_rows, told_rows}
 use Rattle.kt_picture.specs.KnownOf.{KnownOf}
 use Rattle.kt_picture.specs.KnownAtRow.{KnownAtRow, plain_at, seen_before, seen_after, shown_rows, stretch_from, taken_after, told_at, places_after, cut_in, cut_rows}

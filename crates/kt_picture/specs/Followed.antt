@@ -7,7 +7,7 @@ use Rattle.kt_meaning.specs.Past.{Past}
 use Rattle.kt_rules.specs.Traces.{trace_of}
 use Rattle.kt_picture.specs.declared.entry.Entry.{Entry}
 use Rattle.kt_picture.specs.declared.entry.Message.{Message}
-use Rattle.kt_picture.specs.declared.shown.Shown.{Shown}
+use Rattle.kt_picture.specs.declared.window.Shown.{Shown}
 use Rattle.kt_walk.specs.Keeping.{kept_trace}
 use Rattle.kt_picture.specs.KnownAtRow.{KnownAtRow, plain_at, seen_after, told_at}
 use Rattle.kt_picture.specs.Fates.{receives}

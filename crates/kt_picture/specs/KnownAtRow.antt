@@ -5,9 +5,9 @@ use Rattle.kt_spacetime.specs.declared.event.Event.{Event}
 use Rattle.kt_spacetime.specs.declared.event.Event.TheVariants.{Took, Decided}
 use Rattle.kt_spacetime.specs.Events.{process_of}
 use Rattle.kt_meaning.specs.Past.{Past, past, after}
-use Rattle.kt_picture.specs.declared.shown.Shown.{Shown}
-use Rattle.kt_picture.specs.declared.shown.Stretch.{Stretch}
-use Rattle.kt_picture.specs.declared.shown.CutMark.{CutMark}
+use Rattle.kt_picture.specs.declared.window.Shown.{Shown}
+use Rattle.kt_picture.specs.declared.window.Stretch.{Stretch}
+use Rattle.kt_picture.specs.declared.window.CutMark.{CutMark}
 use Rattle.kt_picture.specs.Fates.{is_message_undone, is_receive_undone, is_sent_in_transit, joined_decision}
 
 -- what is known at a row of the window: of all rows before it, how many of them the window has, and by process the

@@ -4,7 +4,7 @@ use Rattle.kt_spacetime.specs.declared.event.Event.{Event}
 use Rattle.kt_meaning.specs.Past.{past}
 use Rattle.kt_walk.specs.WalkOf.{WalkOf}
 use Rattle.kt_walk.specs.WalkParts.{WalkParts}
-use Rattle.kt_picture.specs.declared.known.Known.{Known}
+use Rattle.kt_picture.specs.declared.window.Known.{Known}
 use Rattle.kt_picture.specs.KnownAtRow.{KnownAtRow}
 
 -- it stands, with a walk, for what is known after these rows

@@ -10,13 +10,13 @@ use Rattle.kt_picture.specs.declared.layers.Layer.{Layer}
 use Rattle.kt_picture.specs.declared.layers.Layer.TheVariants as layer
 use Rattle.kt_picture.specs.declared.layers.Thread.{Thread}
 use Rattle.kt_picture.specs.declared.layers.Thread.TheVariants as thread
-use Rattle.kt_picture.specs.declared.style.TheConstants.{STYLE, HEADS}
+use Rattle.kt_picture.specs.declared.looks.TheConstants.{STYLE, HEADS}
 use Rattle.kt_picture.specs.declared.legend.Sign.{Sign}
-use Rattle.kt_picture.specs.declared.mark.Mark.{Mark}
-use Rattle.kt_picture.specs.declared.mark.Mark.TheVariants as mark
+use Rattle.kt_picture.specs.declared.words.Mark.{Mark}
+use Rattle.kt_picture.specs.declared.words.Mark.TheVariants as mark
 use Rattle.kt_picture.specs.declared.looks.Path.{Path}
-use Rattle.kt_picture.specs.declared.shown.CutMark.{CutMark}
-use Rattle.kt_picture.specs.declared.shown.Shown.{Shown}
+use Rattle.kt_picture.specs.declared.window.CutMark.{CutMark}
+use Rattle.kt_picture.specs.declared.window.Shown.{Shown}
 use Rattle.kt_picture.specs.Breach.{breach_shown}
 use Rattle.kt_picture.specs.Escaping.{escaped}
 use Rattle.kt_picture.specs.Lanes.{lane_of}

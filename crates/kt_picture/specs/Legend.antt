@@ -6,9 +6,9 @@ use Rattle.kt_spacetime.specs.declared.event.Event.TheVariants.{Sent, Received, 
 use Rattle.kt_picture.specs.declared.legend.Sign.{Sign}
 use Rattle.kt_picture.specs.declared.legend.Sign.TheVariants as sign
 use Rattle.kt_picture.specs.declared.legend.TheConstants.{SIGNS}
-use Rattle.kt_picture.specs.declared.mark.Mark.{Mark}
-use Rattle.kt_picture.specs.declared.mark.Mark.TheVariants as mark
-use Rattle.kt_picture.specs.declared.shown.Shown.{Shown}
+use Rattle.kt_picture.specs.declared.words.Mark.{Mark}
+use Rattle.kt_picture.specs.declared.words.Mark.TheVariants as mark
+use Rattle.kt_picture.specs.declared.window.Shown.{Shown}
 use Rattle.kt_picture.specs.View.{View}
 
 -- which rows have which marks

@@ -9,9 +9,9 @@ use Rattle.kt_picture.specs.declared.looks.Look.TheVariants as look
 use Rattle.kt_picture.specs.declared.looks.Outline.TheVariants as outline
 use Rattle.kt_picture.specs.declared.looks.Path.{Path}
 use Rattle.kt_picture.specs.declared.looks.Place.{Place}
-use Rattle.kt_picture.specs.declared.mark.Mark.{Mark}
-use Rattle.kt_picture.specs.declared.mark.Mark.TheVariants as mark
-use Rattle.kt_picture.specs.declared.shown.Shown.{Shown}
+use Rattle.kt_picture.specs.declared.words.Mark.{Mark}
+use Rattle.kt_picture.specs.declared.words.Mark.TheVariants as mark
+use Rattle.kt_picture.specs.declared.window.Shown.{Shown}
 use Rattle.kt_picture.specs.declared.words.Saying.{Saying}
 use Rattle.kt_picture.specs.declared.words.Saying.TheVariants as say
 use Rattle.kt_picture.specs.Lanes.{lane_of}

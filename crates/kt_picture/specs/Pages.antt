@@ -1,7 +1,7 @@
 -- What a page's marks are drawn by.
 use Rattle.std.specs.Prelude.{ℕ, List}
 use Rattle.kt_spacetime.specs.declared.event.Event.{Event}
-use Rattle.kt_picture.specs.declared.page.Page.{Page}
+use Rattle.kt_picture.specs.declared.rows.Page.{Page}
 use Rattle.kt_picture.specs.Evidence.{reason_of}
 use Rattle.kt_picture.specs.Links.{link_at}
 use Rattle.kt_picture.specs.View.{View}

@@ -4,7 +4,7 @@ use Rattle.kt_spacetime.specs.declared.event.Event.{Event}
 use Rattle.kt_spacetime.specs.declared.event.Event.TheVariants.{Took, Decided}
 use Rattle.kt_meaning.specs.Past.{past}
 use Rattle.kt_meaning.specs.Messages.{row_at}
-use Rattle.kt_picture.specs.declared.shown.CutMark.{CutMark}
+use Rattle.kt_picture.specs.declared.window.CutMark.{CutMark}
 use Rattle.kt_picture.specs.Marks.{column_of}
 
 -- by the row of this number a process took its last permanent checkpoint: its instance is committed after these first so

@@ -11,8 +11,8 @@ use Rattle.kt_picture.specs.declared.looks.Look.TheVariants as look
 use Rattle.kt_picture.specs.declared.looks.Place.{Place}
 use Rattle.kt_picture.specs.declared.looks.Spot.{Spot}
 use Rattle.kt_picture.specs.declared.legend.Sign.{Sign}
-use Rattle.kt_picture.specs.declared.mark.Mark.{Mark}
-use Rattle.kt_picture.specs.declared.mark.Mark.TheVariants as mark
+use Rattle.kt_picture.specs.declared.words.Mark.{Mark}
+use Rattle.kt_picture.specs.declared.words.Mark.TheVariants as mark
 use Rattle.kt_picture.specs.declared.words.Saying.{Saying}
 use Rattle.kt_picture.specs.declared.words.Saying.TheVariants as say
 use Rattle.kt_picture.specs.Escaping.{escaped}

@@ -2,9 +2,9 @@
 use Rattle.std.specs.Prelude.{ℕ, List, Option}
 use Rattle.kt_spacetime.specs.declared.event.Event.{Event}
 use Rattle.kt_picture.specs.declared.breach.Breach.{Breach}
-use Rattle.kt_picture.specs.declared.shown.Shown.{Shown}
-use Rattle.kt_picture.specs.declared.shown.CutMark.{CutMark}
-use Rattle.kt_picture.specs.declared.shown.Stretch.{Stretch}
+use Rattle.kt_picture.specs.declared.window.Shown.{Shown}
+use Rattle.kt_picture.specs.declared.window.CutMark.{CutMark}
+use Rattle.kt_picture.specs.declared.window.Stretch.{Stretch}
 
 -- the names of processes, and which of them have a lane; how many rows come before the window, how many columns there are,
 -- what its rows show, its permanent cuts, how lanes go on behind it, and the row after it that breaks a rule; in whose chain a

@@ -2,9 +2,9 @@
 use Rattle.std.specs.Prelude.{ℕ, List, take, drop, map, fold}
 use Rattle.std.specs.List.{range_with_len}
 use Rattle.kt_spacetime.specs.declared.event.Event.{Event}
-use Rattle.kt_picture.specs.declared.shown.Shown.{Shown}
-use Rattle.kt_picture.specs.declared.shown.Stretch.{Stretch}
-use Rattle.kt_picture.specs.declared.shown.CutMark.{CutMark}
+use Rattle.kt_picture.specs.declared.window.Shown.{Shown}
+use Rattle.kt_picture.specs.declared.window.Stretch.{Stretch}
+use Rattle.kt_picture.specs.declared.window.CutMark.{CutMark}
 use Rattle.kt_picture.specs.KnownAtRow.{KnownAtRow, seen_before, seen_after, shown_rows, stretch_from, cut_rows}
 
 -- what is known after so many rows of the window

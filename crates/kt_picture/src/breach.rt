@@ -3,7 +3,7 @@
 ghost use Rattle.std.specs.Prelude.{◌≡◌, IfOk};
 ghost use Rattle.kt_picture.specs.Breach.{breach_shown, caption_of};
 
-use crate::shown::{Shown, Stretch};
+use crate::window::{Shown, Stretch};
 use crate::words::RuleName;
 use kt_base::Memory;
 use kt_spacetime::{Event, Rule};

@@ -1,14 +1,16 @@
 //! What certificates add to a picture: whose chain has a message, and why a member took part.
 
-ghost use Rattle.std.specs.Prelude.{◌≡◌, ◌++◌, ◌==◌, OnOk, Some, find, string_bytes};
+ghost use Rattle.std.specs.Prelude.{◌≡◌, ◌++◌, ◌==◌, ℕ, IfOk, OnOk, Some, find, string_bytes};
 ghost use Rattle.std.specs.Option.{option_copied};
 ghost use Rattle.kt_meaning.specs.Messages.{row_at};
-ghost use Rattle.kt_picture.specs.Evidence.{chain_for, chain_of, chain_of_member, chain_word, ends_of_message};
+ghost use Rattle.kt_picture.specs.Evidence.{chain_for, chain_of, chain_of_member, chain_word, ends_of_message, has_message, has_chained, link_of};
+ghost use Rattle.kt_picture.specs.Links.{NotesMore, link_at};
 ghost use Rattle.kt_picture.specs.Pages.{reason_in};
 
-use crate::page::Page;
+use crate::rows::Page;
 use kt_base::{InstNo, Memory, MsgNo, ProcNo};
 use kt_spacetime::{Certificate, Chain, Event};
+use std::alloc::Global;
 use std::fmt::Write;
 
 /// What is told of a log by its certificates, for a picture of it.
@@ -104,5 +106,48 @@ fn push_ends(text: &mut String, page: &Page<'_>, row: Event) -> Result<(), Memor
             Ok(write!(text, ":{from}&gt;{to}")?)
         }
         _ => Ok(()),
+    }
+}
+
+/// By message of a log with so many rows, from 1 on, the instance of the first certificate that has it in a chain.
+pub(crate) fn links_of(
+    alloc: Global,
+    certificates: &[Certificate],
+    count: usize,
+) -> Result<Vec<Option<InstNo>>, Memory>
+    ensures { IfOk result (λ links. (msg : ℕ) → link_at links.items msg ≡ link_of count certificates.now msg) }
+{
+    let mut noted = vec![in alloc; None; count]?;
+    for certificate in certificates {
+        note_certificate(&mut noted, certificate);
+    }
+    Ok(noted)
+}
+
+// Notes the instance of a certificate at the messages of its chains.
+fn note_certificate(noted: &mut [Option<InstNo>], certificate: &Certificate)
+    ensures { NotesMore noted.old noted.new certificate.now.inst (λ msg. has_chained msg certificate.now) }
+{
+    for member in certificate.members.list() {
+        note_chain(noted, certificate.inst, member.1.messages());
+    }
+}
+
+// Notes an instance at the messages of a chain.
+fn note_chain(noted: &mut [Option<InstNo>], inst: InstNo, chain: &[MsgNo])
+    ensures { NotesMore noted.old noted.new inst (λ msg. has_message msg chain.now) }
+{
+    for msg in chain {
+        note(noted, inst, *msg);
+    }
+}
+
+// Notes an instance at a message of the log that has none.
+fn note(noted: &mut [Option<InstNo>], inst: InstNo, msg: MsgNo)
+    ensures { NotesMore noted.old noted.new inst (λ m. msg == m) }
+{
+    let index = msg.index();
+    if index < noted.len() && noted[index].is_none() {
+        noted[index] = Some(inst);
     }
 }

@@ -5,7 +5,7 @@ ghost use Rattle.std.specs.List.{range_with_len};
 ghost use Rattle.kt_base.specs.Sets.{has};
 ghost use Rattle.kt_picture.specs.Lanes.{names_process, lane_of};
 
-use crate::items::push_item;
+use crate::window::push_item;
 use kt_base::{Memory, ProcNo, ProcSet};
 use kt_spacetime::Event;
 use std::alloc::Global;

@@ -1,7 +1,7 @@
 //! Laws that a reader of a picture relies on, with nothing to run.
 
 ghost use Rattle.std.specs.Prelude.{◌≡◌, ◌≢◌, ◌↔◌, ◌||◌, ◌+◌, ◌-◌, ◌≤◌, ◌<◌, ℕ, ℤ, Bool, Option, Some, None, true, false, List, [], Contains, length, drop, take, map, not, bytes_eq, replicate, slice_get, slice_index};
-ghost use Rattle.std.specs.List.{filter_map};
+ghost use Rattle.std.specs.List.{filter_map, list_all};
 ghost use Rattle.kt_spacetime.specs.declared.event.Event.{Event};
 ghost use Rattle.kt_spacetime.specs.declared.event.Event.TheVariants.{Sent, Received, Dropped, Took, Ready, Decided};
 ghost use Rattle.kt_spacetime.specs.Events.{process_of};
@@ -11,9 +11,10 @@ ghost use Rattle.kt_meaning.specs.Cuts.{permanent_cut};
 ghost use Rattle.kt_meaning.specs.Legal.{IsLegal, has_deed};
 ghost use Rattle.kt_meaning.specs.Messages.{row_at};
 ghost use Rattle.kt_rules.specs.Traces.{trace_of};
-ghost use Rattle.kt_picture.specs.declared.shown.Shown.{Shown};
-ghost use Rattle.kt_picture.specs.declared.shown.CutMark.{CutMark};
+ghost use Rattle.kt_picture.specs.declared.window.Shown.{Shown};
+ghost use Rattle.kt_picture.specs.declared.window.CutMark.{CutMark};
 ghost use Rattle.kt_picture.specs.Arrows.{has_arrow, StaysReceived};
+ghost use Rattle.kt_picture.specs.Escaping.{escaped, is_no_mark};
 ghost use Rattle.kt_picture.specs.Fates.{is_send_undone, has_no_receive};
 ghost use Rattle.kt_picture.specs.Places.{columns_before, IsLastPermanent, IsPermanentColumn, commits};
 ghost use Rattle.kt_picture.specs.Looks.{class_text, outline_text, word_y};
@@ -155,4 +156,9 @@ pub fn words_stand_apart()
 pub fn legend_tells_marks()
     ensures { (view : View) (sign : Sign) → Contains SIGNS sign →
         Contains (signs_of view) sign ↔ (has_sign view sign ≡ true) }
+{}
+
+/// No `<`, `>`, `"` or `'` comes through into a picture: a law, with nothing to run.
+pub fn escaped_has_no_mark()
+    ensures { (text : List ℕ) → list_all is_no_mark (escaped text) ≡ true }
 {}

@@ -2,20 +2,17 @@
 
 ghost use Rattle.std.specs.Prelude.{◌≡◌, ◌≤◌, ◌<◌, ◌^◌, ◌+◌, ◌++◌, IfOk, OnOk, length, string_bytes};
 ghost use Rattle.std.specs.List.{flat_map};
+ghost use Rattle.kt_picture.specs.Escaping.{escaped, escaped_byte};
 ghost use Rattle.kt_picture.specs.Layers.{arrow_text, breach_text, cut_text, end_of, lane_mark, lanes_text, marks_text, opening, picture_text, row_mark, rows_text, rule_of, titled_text, top_of, width_of, words_text};
 ghost use Rattle.kt_picture.specs.Legend.{signs_of};
 ghost use Rattle.kt_picture.specs.Pages.{view_in};
 
-use crate::escaping::push_escaped;
 use crate::evidence::push_reason;
 use crate::legend::{Sign, push_legend, signs_of};
-use crate::looks::{Path, x_of, y_of};
-use crate::mark::{Mark, push};
-use crate::page::Page;
-use crate::rows::{arrow_at, figure_of, number_at, stretch_of, word_at};
-use crate::shown::{CutMark, Shown};
-use crate::style::{HEADS, STYLE};
-use crate::words::fields_of;
+use crate::looks::{HEADS, Path, STYLE, x_of, y_of};
+use crate::rows::{Page, arrow_at, figure_of, number_at, stretch_of, word_at};
+use crate::window::{CutMark, Shown};
+use crate::words::{Mark, fields_of, push};
 use kt_base::{Memory, ProcNo};
 use std::alloc::Global;
 use std::fmt::Write;
@@ -265,5 +262,29 @@ fn rule_of(page: &Page<'_>) -> Option<Mark>
     match page.breach {
         Some(breach) => Some(Mark::Rule(breach.rule, page.columns)),
         None => None,
+    }
+}
+
+// Gathers a text of others, in which nothing is read as a mark.
+fn push_escaped(text: &mut Vec<u8>, other: &[u8]) -> Result<(), Memory>
+    ensures { OnOk result (text.new.items ≡ text.old.items ++ escaped other.now) }
+{
+    for byte in other {
+        push_byte(text, *byte)?;
+    }
+    Ok(())
+}
+
+// Gathers a byte of such a text.
+fn push_byte(text: &mut Vec<u8>, byte: u8) -> Result<(), Memory>
+    ensures { OnOk result (text.new.items ≡ text.old.items ++ escaped_byte byte) }
+{
+    match byte {
+        b'"' => Ok(text.extend_from_slice(b"&quot;")?),
+        b'&' => Ok(text.extend_from_slice(b"&amp;")?),
+        b'\'' => Ok(text.extend_from_slice(b"&apos;")?),
+        b'<' => Ok(text.extend_from_slice(b"&lt;")?),
+        b'>' => Ok(text.extend_from_slice(b"&gt;")?),
+        _ => Ok(text.push(byte)?),
     }
 }

@@ -8,9 +8,9 @@ ghost use Rattle.kt_picture.specs.Pages.{view_in};
 ghost use Rattle.kt_picture.specs.Signs.{sign_figure, sign_words};
 
 use crate::looks::{Figure, Look, Outline, shape};
-use crate::mark::{Mark, push};
-use crate::page::Page;
-use crate::shown::{CutMark, Shown};
+use crate::rows::Page;
+use crate::window::{CutMark, Shown};
+use crate::words::{Mark, push};
 use kt_base::Memory;
 use kt_spacetime::Event;
 use std::alloc::Global;

@@ -1,40 +1,160 @@
-//! What the window of a picture shows.
+//! What the window of a picture shows, and what is known at each of its rows.
 
-ghost use Rattle.std.specs.Prelude.{◌≡◌, ◌++◌, List, IfOk, OnOk, map};
+ghost use Rattle.std.specs.Prelude.{◌≡◌, ◌<◌, ◌^◌, ◌+◌, ◌++◌, ◌∷◌, [], ℕ, List, IfOk, OnOk, map, replicate, slice_set};
 ghost use Rattle.std.specs.List.{range_with_len};
 ghost use Rattle.kt_spacetime.specs.declared.event.Event.{Event};
+ghost use Rattle.kt_spacetime.specs.Events.{process_of};
+ghost use Rattle.kt_meaning.specs.Past.{past};
 ghost use Rattle.kt_walk.specs.WalkOf.{WalkOf};
-ghost use Rattle.kt_picture.specs.Followed.{AreFollowed, told_rows};
-ghost use Rattle.kt_picture.specs.KnownAtRow.{KnownAtRow, cut_in, stretch_from};
+ghost use Rattle.kt_picture.specs.KnownAtRow.{KnownAtRow, cut_in, plain_at, taken_after, places_after, place_after, stretch_from};
 ghost use Rattle.kt_picture.specs.KnownOf.{KnownOf};
 
-use crate::entry::Entry;
-use crate::fates::told;
-use crate::items::push_item;
-use crate::known::Known;
-use crate::shown::{CutMark, Shown, Stretch};
-use kt_base::{Memory, ProcNo};
+use kt_base::{InstNo, Memory, ProcNo};
 use kt_spacetime::Event;
 use kt_walk::Walk;
 use std::alloc::Global;
 
-/// What each row of the window shows at its end.
-pub(crate) fn shown_rows(
-    alloc: Global,
-    walk: &Walk,
-    entries: &[Entry],
-) -> Result<Vec<Shown>, Memory>
-    ensures { IfOk result (λ v. (upto : List Event) → WalkOf walk.now upto → AreFollowed upto entries.now
-        → v.items ≡ told_rows upto entries.now) }
-{
-    let mut shown = Vec::new(alloc);
-    for index in 0..entries.len() {
-        push_item(
-            &mut shown,
-            told(walk, &entries[index], &entries[index + 1..]),
-        )?;
+/// What a row of the window shows, with what became of it by the window's end. Columns are counted from 1; 0 is the
+/// left end.
+#[derive(Clone, Copy)]
+pub(crate) struct Shown {
+    /// The row's number in the log.
+    pub(crate) row: u32,
+    pub(crate) column: u32,
+    pub(crate) event: Event,
+    /// How the process's lane comes to this row.
+    pub(crate) stretch: Stretch,
+    /// Whether the send of the row's message is undone.
+    pub(crate) is_undone: bool,
+    /// Whether the row receives a message, and that is undone.
+    pub(crate) is_taken_back: bool,
+    /// Whether the row sends a message that is in transit.
+    pub(crate) is_in_transit: bool,
+    /// How the instance is decided that the process joins in this row.
+    pub(crate) decision: Option<bool>,
+}
+
+/// A stretch of a process's lane, from its last row on.
+#[derive(Clone, Copy)]
+pub(crate) struct Stretch {
+    /// The column of that row.
+    pub(crate) since: u32,
+    /// Whether the process is up after it.
+    pub(crate) up: bool,
+    /// The instance that the process is in after it.
+    pub(crate) open_in: Option<InstNo>,
+}
+
+/// The permanent cut after the commit of an instance: by process the column of its permanent position.
+#[derive(Clone, Copy)]
+pub(crate) struct CutMark {
+    pub(crate) inst: InstNo,
+    pub(crate) columns: [u32; 64],
+    /// Whether it differs from the one before.
+    pub(crate) is_new: bool,
+}
+
+/// What is known at a row of the window, beside a walk: how many rows of the window came before it, and where marks of
+/// processes are there.
+#[derive(Clone, Copy)]
+pub(crate) struct Known {
+    pub(crate) column: u32,
+    /// By process: the column of its last row.
+    pub(crate) latest: [u32; 64],
+    /// By process: the column of its last `took` row.
+    pub(crate) taken: [u32; 64],
+    /// By process: the column of its permanent position.
+    pub(crate) places: [u32; 64],
+}
+
+impl Known {
+    /// What is known at the left end.
+    pub(crate) fn new() -> Known
+        ensures { result ≡ record { column = 0; latest = replicate 64 0; taken = replicate 64 0; places = replicate 64 0 } }
+    {
+        Known {
+            column: 0,
+            latest: [0; 64],
+            taken: [0; 64],
+            places: [0; 64],
+        }
     }
-    Ok(shown)
+
+    /// What the next row shows, but for what becomes of it.
+    pub(crate) fn plain(&self, walk: &Walk, row: &Event) -> Shown
+        requires few { walk.now.rows < 2 ^ 24 }
+        requires column { self.now.column < 2 ^ 24 }
+        ensures { (s : KnownAtRow) (rows : List Event) → KnownOf self.now walk.now s rows → result ≡ plain_at s row.now }
+    {
+        Shown {
+            row: walk.rows() as u32 + 1,
+            column: self.column + 1,
+            event: *row,
+            stretch: self.stretch(walk, row.process()),
+            is_undone: false,
+            is_taken_back: false,
+            is_in_transit: false,
+            decision: None,
+        }
+    }
+
+    /// The stretch of a process's lane from its last row on.
+    pub(crate) fn stretch(&self, walk: &Walk, p: ProcNo) -> Stretch
+        ensures { (s : KnownAtRow) (rows : List Event) → KnownOf self.now walk.now s rows → result ≡ stretch_from s p }
+    {
+        Stretch {
+            since: self.latest[p.index()],
+            up: walk.is_up(p),
+            open_in: walk.open_in(p),
+        }
+    }
+
+    /// What is known after one more row, which the walk has not taken yet.
+    pub(crate) fn after(&self, walk: &Walk, row: &Event) -> Known
+        requires { self.now.column < 2 ^ 24 }
+        ensures column { result.column ≡ self.now.column + 1 }
+        ensures latest { result.latest ≡ slice_set self.now.latest (process_of row.now) (self.now.column + 1) }
+        ensures taken { result.taken ≡ taken_after self.now.column self.now.taken row.now }
+        ensures places { (rows : List Event) → WalkOf walk.now rows
+            → result.places ≡ places_after (past rows) self.now.taken self.now.places row.now }
+    {
+        let column = self.column + 1;
+        Known {
+            column,
+            latest: with_column(&self.latest, row.process(), column),
+            taken: match *row {
+                Event::Took { p, .. } => with_column(&self.taken, p, column),
+                _ => self.taken,
+            },
+            places: match *row {
+                Event::Decided { inst, commit, .. } if commit => self.promoted(walk, inst),
+                _ => self.places,
+            },
+        }
+    }
+
+    // The columns of permanent positions after the commit of an instance: those of its `took` rows, where there are some.
+    fn promoted(&self, walk: &Walk, inst: InstNo) -> [u32; 64]
+        ensures { (rows : List Event) → WalkOf walk.now rows
+            → result ≡ map (place_after (past rows) inst self.now.taken self.now.places) (range_with_len 0 64) }
+    {
+        let mut after = self.places;
+        for number in 0..ProcNo::COUNT {
+            if walk.position(inst, ProcNo::nth(number)).is_some() {
+                after[number as usize] = self.taken[number as usize];
+            }
+        }
+        after
+    }
+}
+
+// These columns with another one of a process.
+fn with_column(columns: &[u32; 64], p: ProcNo, column: u32) -> [u32; 64]
+    ensures { result ≡ slice_set columns.now p column }
+{
+    let mut after = *columns;
+    after[p.index()] = column;
+    after
 }
 
 /// How the lane of each process goes on to the right end.
@@ -70,4 +190,12 @@ pub(crate) fn push_cut(
         }
         _ => Ok(()),
     }
+}
+
+/// Gathers one more item.
+pub(crate) fn push_item<T: Copy>(items: &mut Vec<T>, item: T) -> Result<(), Memory>
+    ensures { OnOk result (items.new.items ≡ items.old.items ++ item ∷ []) }
+{
+    items.push(item)?;
+    Ok(())
 }

@@ -4,7 +4,7 @@ use Rattle.kt_meaning.specs.Past.{Past}
 use Rattle.kt_meaning.proofs.Items.{written}
 use Rattle.kt_meaning.proofs.LegalLogs.{legal_last, rows_length}
 use Rattle.kt_picture.specs.declared.entry.Entry.{Entry}
-use Rattle.kt_picture.specs.declared.shown.Shown.{Shown}
+use Rattle.kt_picture.specs.declared.window.Shown.{Shown}
 use Rattle.kt_picture.specs.DiagramOf.{seen_in}
 use Rattle.kt_picture.specs.Followed.{AreFollowed, IsFollowedAs, message_in, plain_of}
 use Rattle.kt_picture.proofs.DiagramFacts.{diagram_added}
