@@ -1,12 +1,12 @@
 //! A row of the window with its message, which is followed row by row, and what became of it by the window's end.
 
-ghost use Rattle.std.specs.Prelude.{◌≡◌, ◌++◌, ◌∷◌, [], None, ℕ, Option, List, IfOk, length, map, option_map};
+ghost use Rattle.std.specs.Prelude.{◌≡◌, ◌++◌, ◌∷◌, [], None, ℕ, Option, List, IfOk, length, map};
 ghost use Rattle.std.specs.List.{list_any};
 ghost use Rattle.kt_spacetime.specs.declared.event.Event.{Event};
 ghost use Rattle.kt_meaning.specs.Past.{past};
 ghost use Rattle.kt_meaning.specs.Legal.{broken_rule};
 ghost use Rattle.kt_walk.specs.WalkOf.{WalkOf};
-ghost use Rattle.kt_picture.specs.Fates.{has_no_receive, receives, is_message_undone, is_receive_undone, is_sent_in_transit, joined_decision};
+ghost use Rattle.kt_picture.specs.Fates.{receives, is_message_undone, is_receive_undone, is_sent_in_transit, joined_decision};
 ghost use Rattle.kt_picture.specs.Followed.{AreFollowed, IsFollowed, IsFollowedAs, event_of, if_within, message_in, message_kept, message_taken, plain_of, told_rows, trace_after};
 ghost use Rattle.kt_picture.specs.KnownAtRow.{told_at};
 
@@ -178,18 +178,11 @@ fn is_receive_undone(row: &Event, message: Option<Message>, rest: &[Entry]) -> b
     ensures { (upto : List Event) (n : ℕ) → IsFollowedAs upto (message_in n row.now) message
         → result ≡ is_receive_undone upto row.now (map event_of rest.now) }
 {
-    match *row {
-        Event::Received { msg, .. } => has_no_receive(message) || is_received_in(rest, msg),
-        _ => false,
-    }
-}
-
-// Whether no receive of a message is in its receiver's live history.
-fn has_no_receive(message: Option<Message>) -> bool
-    ensures { result ≡ has_no_receive (option_map (λ m. m.trace) message) }
-{
+    let Event::Received { msg, .. } = *row else {
+        return false;
+    };
     match message {
-        Some(message) => message.trace.received.is_none(),
+        Some(message) => message.trace.received.is_none() || is_received_in(rest, msg),
         None => true,
     }
 }

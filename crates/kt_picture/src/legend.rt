@@ -3,7 +3,7 @@
 ghost use Rattle.std.specs.Prelude.{◌≡◌, ◌≤◌, ◌<◌, ◌^◌, ◌++◌, IfOk, OnOk, Some, None, length, string_bytes};
 ghost use Rattle.std.specs.List.{list_any};
 ghost use Rattle.kt_picture.specs.Layers.{legend_text};
-ghost use Rattle.kt_picture.specs.Legend.{is_linked, row_shows, has_sign, signs_of};
+ghost use Rattle.kt_picture.specs.Legend.{row_shows, has_sign, signs_of};
 ghost use Rattle.kt_picture.specs.Pages.{view_in};
 ghost use Rattle.kt_picture.specs.Signs.{sign_figure, sign_words};
 
@@ -120,7 +120,10 @@ fn row_shows(page: &Page<'_>, sign: Sign, s: &Shown) -> bool
     match sign {
         Sign::Message => matches!(s.event, Event::Sent { .. } | Event::Received { .. }),
         Sign::Undone => s.is_undone || s.is_taken_back,
-        Sign::Chain => is_linked(page, s.event),
+        Sign::Chain => match s.event {
+            Event::Received { msg, .. } | Event::Dropped { msg, .. } => page.link(msg).is_some(),
+            _ => false,
+        },
         Sign::Transit => s.is_in_transit,
         Sign::Dropped => matches!(s.event, Event::Dropped { .. }),
         Sign::Instance => matches!(s.event, Event::Began { .. }) || s.stretch.open_in.is_some(),
@@ -130,16 +133,6 @@ fn row_shows(page: &Page<'_>, sign: Sign, s: &Shown) -> bool
         Sign::Failure => matches!(s.event, Event::Failed { .. }),
         Sign::Refusal => matches!(s.event, Event::Unwilling { .. } | Event::Refused { .. }),
         Sign::Cut | Sign::Wrong => false,
-    }
-}
-
-// Whether a row takes a message of a chain.
-fn is_linked(page: &Page<'_>, event: Event) -> bool
-    ensures { result ≡ is_linked (view_in page.now) event }
-{
-    match event {
-        Event::Received { msg, .. } | Event::Dropped { msg, .. } => page.link(msg).is_some(),
-        _ => false,
     }
 }
 

@@ -245,15 +245,8 @@ const MOST_LABELLED: u32 = 64;
 fn body_of(page: &Page<'_>, msg: MsgNo) -> Option<i64>
     ensures { result ≡ body_of (view_in page.now) msg }
 {
-    if msg.get() <= page.sheet.before {
-        return None;
-    }
-    match page
-        .sheet
-        .shown
-        .get((msg.get() - page.sheet.before - 1) as usize)?
-        .event
-    {
+    let index = msg.index().checked_sub(page.sheet.before as usize)?;
+    match page.sheet.shown.get(index)?.event {
         Event::Sent { body, .. } => Some(body),
         _ => None,
     }
