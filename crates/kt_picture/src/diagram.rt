@@ -43,7 +43,12 @@ impl Diagram {
         ensures { (w : WalkParts) → WalkOf w [] → DiagramOf result w [] [] }
     {
         Diagram {
-            known: Known::new(),
+            known: Known {
+                column: 0,
+                latest: [0; 64],
+                taken: [0; 64],
+                places: [0; 64],
+            },
             named: ProcSet::empty(),
             entries: Vec::new(alloc),
             cuts: Vec::new(alloc),

@@ -166,11 +166,8 @@ fn figure_at(s: &Shown) -> Figure
         Event::Ready { inst, .. } => shape(joined, Some(inst.get()), Outline::Triangle { crossed }),
         Event::Decided { inst, commit, .. } => {
             let look = if commit { Look::Full } else { Look::Open };
-            shape(
-                look,
-                Some(inst.get()),
-                Outline::Diamond { crossed: !commit },
-            )
+            let crossed = !commit;
+            shape(look, Some(inst.get()), Outline::Diamond { crossed })
         }
         Event::Closed { inst, .. } => shape(Look::Open, Some(inst.get()), Outline::Ending),
         Event::Failed { .. } => shape(Look::Failed, None, Outline::Bolt),

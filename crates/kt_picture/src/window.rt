@@ -1,6 +1,6 @@
 //! What the window of a picture shows, and what is known at each of its rows.
 
-ghost use Rattle.std.specs.Prelude.{◌≡◌, ◌<◌, ◌^◌, ◌+◌, ◌++◌, ◌∷◌, [], ℕ, List, IfOk, OnOk, map, replicate, slice_set};
+ghost use Rattle.std.specs.Prelude.{◌≡◌, ◌<◌, ◌^◌, ◌+◌, ◌++◌, ◌∷◌, [], ℕ, List, IfOk, OnOk, map, slice_set};
 ghost use Rattle.std.specs.List.{range_with_len};
 ghost use Rattle.kt_spacetime.specs.declared.event.Event.{Event};
 ghost use Rattle.kt_spacetime.specs.Events.{process_of};
@@ -68,18 +68,6 @@ pub(crate) struct Known {
 }
 
 impl Known {
-    /// What is known at the left end.
-    pub(crate) fn new() -> Known
-        ensures { result ≡ record { column = 0; latest = replicate 64 0; taken = replicate 64 0; places = replicate 64 0 } }
-    {
-        Known {
-            column: 0,
-            latest: [0; 64],
-            taken: [0; 64],
-            places: [0; 64],
-        }
-    }
-
     /// What the next row shows, but for what becomes of it.
     pub(crate) fn plain(&self, walk: &Walk, row: &Event) -> Shown
         requires few { walk.now.rows < 2 ^ 24 }
