@@ -15,3 +15,5 @@ pub mod MergedFacts
 pub mod StopFacts
 pub mod MergingFacts
 mod Rowwise
+mod CausalRows
+mod CausalParts

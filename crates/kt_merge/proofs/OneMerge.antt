@@ -29,7 +29,7 @@ pub of_other : (p : ℕ) (x : PartRow) (xs : List PartRow) → x.row.p ≢ p →
 of_other p x xs n = ap (λ (b : Bool). cond b (x ∷ rows_of p xs) (rows_of p xs)) (not_test x.row.p p n)
 
 -- the first row of a process stands among all
-stands : (p : ℕ) (x : PartRow) (rest ys : List PartRow) → rows_of p ys ≡ x ∷ rest → (j : ℕ) × (slice_get ys j ≡ Some x)
+pub stands : (p : ℕ) (x : PartRow) (rest ys : List PartRow) → rows_of p ys ≡ x ∷ rest → (j : ℕ) × (slice_get ys j ≡ Some x)
 stands p x rest [] e = cc e
 stands p x rest (y ∷ ys) e = elim (cases_eq y.row.p p) [
   | inl same ↦ let here : y ≡ x = cc (sym (of_it p y ys same) ∙ e) in (0, ap Some here)
@@ -39,16 +39,16 @@ stands p x rest (y ∷ ys) e = elim (cases_eq y.row.p p) [
 ]
 
 -- what comes after the first row of a sorted list
-after_first : (y x : PartRow) (ys : List PartRow) (j : ℕ) → AllPairs IsNotLater (y ∷ ys) → slice_get ys j ≡ Some x → IsNotLater y x
+pub after_first : (y x : PartRow) (ys : List PartRow) (j : ℕ) → AllPairs IsNotLater (y ∷ ys) → slice_get ys j ≡ Some x → IsNotLater y x
 after_first y x ys j sorted e =
     let within = slice_get_within ys j x e in
     let pair = sorted 0 (suc j) y (omega arith) (omega (arith, within)) in
     subst (λ (r : PartRow). IsNotLater y r) (get_or_from_slice_get ys j x y e) pair
 
-rest_sorted : (y : PartRow) (ys : List PartRow) → AllPairs IsNotLater (y ∷ ys) → AllPairs IsNotLater ys
+pub rest_sorted : (y : PartRow) (ys : List PartRow) → AllPairs IsNotLater (y ∷ ys) → AllPairs IsNotLater ys
 rest_sorted y ys sorted i j d low l = sorted (suc i) (suc j) d (omega (arith, low)) (omega (arith, l))
 
-both_ways : (x y : PartRow) → IsNotLater x y → IsNotLater y x → x.row.p ≡ y.row.p
+pub both_ways : (x y : PartRow) → IsNotLater x y → IsNotLater y x → x.row.p ≡ y.row.p
 both_ways x y (inl a) (inl b) = absurd (omega (arith, a, b))
 both_ways x y (inl a) (inr b) = absurd (omega (arith, a, b.0))
 both_ways x y (inr a) (inl b) = absurd (omega (arith, a.0, b))
@@ -88,7 +88,7 @@ merged_once (x ∷ xs) (y ∷ ys) s t e =
     cc (same, rest)
 
 -- no row is of a process without a part
-none_beyond : (n p : ℕ) (rows : List PartRow) → n ≤ p → All (λ r. r.row.p < n) rows → rows_of p rows ≡ []
+pub none_beyond : (n p : ℕ) (rows : List PartRow) → n ≤ p → All (λ r. r.row.p < n) rows → rows_of p rows ≡ []
 none_beyond n p [] l a = refl
 none_beyond n p (x ∷ xs) l a =
     let here : x.row.p < n = All-head (λ (r : PartRow). r.row.p < n) x xs a in

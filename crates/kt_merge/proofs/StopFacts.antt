@@ -31,7 +31,7 @@ pub row_fault : (start parts : List PartRead) (heads : List (Option PartRow)) (r
 row_fault start parts heads rows log p row n what m least number wrong =
     let own = own_of start parts heads rows log m p row least.is in
     subst (λ (q : ℕ). IsMergeFaultAfter start rows log (merge.Row q n what)) (sym own.1)
-    (number, row, own.1, here, others, subst (λ (q : ℕ). IsRowFault (given_by nothing_given log) q row.row.event what) own.1 wrong)
+    (omega (arith, slice_get_within heads p (Some row) least.is, m.many.1), number, row, own.1, here, others, subst (λ (q : ℕ). IsRowFault (given_by nothing_given log) q row.row.event what) own.1 wrong)
   where
     here : (left : Records) → IsLeftOf start rows p left → SaysNext p rows left row
     here left l =
@@ -64,7 +64,7 @@ wrong_in p mine text left old new fault g b f =
 pub part_fault : (start parts : List PartRead) (heads : List (Option PartRow)) (p : ℕ) (before : List PartRow) (row : PartRow) (log : List Event) (old new : PartRead) (fault : PartFault) → IsTaken start parts heads p before row log
     → slice_get parts p ≡ Some old → MeetsPartFault old new fault → IsMergeFaultAfter start (before ++ row ∷ []) log (merge.Part p fault)
 part_fault start parts heads p before row log old new fault t there f =
-    (inr (before, row, refl, t.own, others), λ left l. wrong_in p (rows_of p (before ++ row ∷ [])) l.0 left old new fault (gathered_here start parts heads p before row log t l.0 l.1 old there) l.2 f)
+    (t.many.2, inr (before, row, refl, t.own, others), λ left l. wrong_in p (rows_of p (before ++ row ∷ [])) l.0 left old new fault (gathered_here start parts heads p before row log t l.0 l.1 old there) l.2 f)
   where
     others : (q : ℕ) (left : Records) → q ≢ p → IsLeftOf start (before ++ row ∷ []) q left → GoesOn q (before ++ row ∷ []) left
     others q left n l =
@@ -80,7 +80,7 @@ pub record HoldFirst (start parts : List PartRead) (heads : List (Option PartRow
 -- the first row of a part is wrong
 pub first_fault : (start parts : List PartRead) (heads : List (Option PartRow)) (n : ℕ) (old new : PartRead) (fault : PartFault) → ArePartsUnread start → HoldFirst start parts heads n → slice_get parts n ≡ Some old → MeetsPartFault old new fault
     → IsMergeFaultAfter start [] [] (merge.Part n fault)
-first_fault start parts heads n old new fault unread h there f = (inl (refl, before), wrong)
+first_fault start parts heads n old new fault unread h there f = (omega (arith, slice_get_within parts n old there, h.many.0), inl (refl, before), wrong)
   where
     before : (q : ℕ) (left : Records) → q < n → IsLeftOf start [] q left → GoesOn q [] left
     before q left less l =

@@ -4,7 +4,6 @@ pub use Rattle.kt_text.specs.Writing
 pub use Rattle.kt_spacetime.specs.Counts
 pub use Rattle.kt_spacetime.specs.NamedRows
 pub use Rattle.kt_meaning.specs.Names
-pub mod Merged
 pub mod PartSlot
 pub mod Spelling
 pub mod Texts
@@ -15,3 +14,4 @@ pub mod Merging
 pub mod Heads
 pub mod Numbering
 pub mod FaultTexts
+pub mod Causal

@@ -101,9 +101,10 @@ abbrev pub IsMergeFaultAfter : List PartRead → List PartRow → List Event →
 IsMergeFaultAfter parts rows log merge.Write = Unit {0}
 IsMergeFaultAfter parts rows log merge.Memory = Unit {0}
 IsMergeFaultAfter parts rows log (merge.Part p fault) =
-    ComesNext parts rows p × ((left : Records) → IsLeftOf parts rows p left → IsPartFaultFrom p (length (rows_of p rows)) (clock_after 0 (rows_of p rows)) left fault)
+    (p < length parts) × ComesNext parts rows p
+    × ((left : Records) → IsLeftOf parts rows p left → IsPartFaultFrom p (length (rows_of p rows)) (clock_after 0 (rows_of p rows)) left fault)
 IsMergeFaultAfter parts rows log (merge.Row p n fault) =
-    (n ≡ length (rows_of p rows) + 1) × (row : PartRow) × (row.row.p ≡ p)
+    (p < length parts) × (n ≡ length (rows_of p rows) + 1) × (row : PartRow) × (row.row.p ≡ p)
     × ((left : Records) → IsLeftOf parts rows p left → SaysNext p rows left row)
     × ((q : ℕ) (left : Records) → IsLeftOf parts rows q left → (left ≡ []) ⊎ ((next : PartRow) × SaysNext q rows left next × IsNotLater row next))
     × IsRowFault (given_by nothing_given log) p row.row.event fault

@@ -1,9 +1,14 @@
 //! Laws of merges; there is nothing to run.
 
-ghost use Rattle.std.specs.Prelude.{◌≡◌, ℕ, List, Option};
+ghost use Rattle.std.specs.Prelude.{◌≡◌, ℕ, List, Option, Some, AllPairs};
+ghost use Rattle.kt_meaning.specs.Names.{numbered};
+ghost use Rattle.kt_spacetime.specs.declared.event.Event.{Event as events};
+ghost use Rattle.kt_merge.specs.declared.fault.MergeFault.{MergeFault as merge_faults};
+ghost use Rattle.kt_merge.specs.Causal.{AreCausal, IsOfLimits};
+ghost use Rattle.kt_merge.specs.Heads.{IsNotLater};
 ghost use Rattle.kt_merge.specs.declared.part_rows.PartRow.{PartRow as part_rows};
 ghost use Rattle.kt_merge.specs.Reading.{PartRead as parts_read};
-ghost use Rattle.kt_merge.specs.Merging.{IsMergeOf, IsRowwise, AreKnown, WritesMerge};
+ghost use Rattle.kt_merge.specs.Merging.{IsMergeOf, IsRowwise, AreKnown, StopsMerge, WritesMerge, without_clocks};
 
 /// Where the log of a merge was written, names can be put back: each process's rows are then those of its part, none added and
 /// none lost.
@@ -18,4 +23,13 @@ pub fn names_put_back()
 pub fn one_merge()
     ensures { (parts : List parts_read) (rows others : List part_rows) → AreKnown parts → IsMergeOf parts rows →
         IsMergeOf parts others → rows ≡ others }
+{}
+
+/// Rows in order of which each process gives its names in order, and each name is given by a row that comes before each that
+/// uses it, have a log. So nothing stops the merge of such parts but readers, writers, memory and the limits of a log.
+pub fn causal_parts_merge()
+    ensures log { (rows : List part_rows) → AllPairs IsNotLater rows → AreCausal rows →
+        (log : List events) × (numbered (without_clocks rows) ≡ Some log) }
+    ensures faults { (parts : List parts_read) (rows : List part_rows) (old new : Option (List ℕ)) (fault : merge_faults) →
+        AreKnown parts → IsMergeOf parts rows → AreCausal rows → StopsMerge parts old new fault → IsOfLimits fault }
 {}

@@ -4,7 +4,7 @@
 //! **What to change where:** a part: how a row is spelled `part_rows.rt`, how a name is `names.rt`; `reading.rt`,
 //! `writing.rt`; faults `part_fault.rt`; laws `part_laws.rt`. The merge: the parts `parts.rt`; which row comes next
 //! `heads.rt`; numbers for names `numbers.rt`, `tables.rt`; how a row is written `rows.rt`; the pass `merging.rt`;
-//! faults `fault.rt`; laws `laws.rt`. Its text, and which record is told of, `text.rt`; in which words `told.rt`; where
+//! faults `fault.rt`; laws `laws.rt`. Which record is told of `text.rt`; in which words `told.rt`; where
 //! the row stands that comes too late `giver.rt`.
 #![tactic(auto)]
 
@@ -28,12 +28,12 @@ mod writing;
 
 pub use fault::{MergeFault, RowFault};
 pub use giver::Giver;
-pub use laws::{names_put_back, one_merge};
+pub use laws::{causal_parts_merge, names_put_back, one_merge};
 pub use merging::merge_parts;
 pub use part_fault::PartFault;
 pub use part_laws::{part_faults_are_real, part_rows_have_one_spelling};
 pub use part_rows::PartRow;
 pub use parts::Parts;
 pub use reading::{PartReader, read_part};
-pub use text::{Unmerged, merged_text};
+pub use text::{Unmerged, merge_inputs};
 pub use writing::write_part;

@@ -1,8 +1,7 @@
-//! Parts merged to a text, and where that stops.
+//! Parts of named inputs merged, and what is told where that stops.
 
-ghost use Rattle.std.specs.Prelude.{◌≤◌, length, IfOk, IfErr};
-ghost use Rattle.kt_merge.specs.Merging.{ArePartsUnread};
-ghost use Rattle.kt_merge.specs.Merged.{IsMergedText, IsUnmerged};
+ghost use Rattle.std.specs.Prelude.{◌≤◌, length, IfErr, OnOk};
+ghost use Rattle.kt_merge.specs.Merging.{ArePartsUnread, StopsMerge, WritesMerge};
 
 use crate::fault::{MergeFault, RowFault};
 use crate::giver::Giver;
@@ -13,7 +12,7 @@ use crate::told::{Told, ToldRecord};
 use kt_base::ProcNo;
 use kt_text::{Input, Place};
 use std::alloc::Global;
-use std::io::Read;
+use std::io::{Read, Write};
 
 /// Why parts have no log, and what is told of that. Its text is the lines below the line of the fault, each begun with two
 /// spaces and ended by a line feed.
@@ -33,21 +32,20 @@ impl Unmerged {
     }
 }
 
-/// The text of the log of these parts, of which none was read yet.
-///
-/// All of it is gathered, some 20 bytes for each row. A fault is the first one in the order of the log, or want of memory.
-pub fn merged_text<R: Read + Drop>(
+/// Writes the log of these parts, of which none was read yet, as `merge_parts` does, and says what is told of a fault.
+pub fn merge_inputs<R: Read + Drop, W: Write>(
     alloc: Global,
     parts: &mut Parts<Input<R>>,
-) -> Result<Vec<u8>, Unmerged>
+    writer: &mut W,
+) -> Result<(), Unmerged>
     requires few { length parts.old ≤ 64 }
     requires unread { ArePartsUnread parts.old }
-    ensures text { IfOk result (λ text. IsMergedText parts.old text.items) }
-    ensures fault { IfErr result (λ unmerged. IsUnmerged parts.old unmerged.fault) }
+    ensures merged { OnOk result (WritesMerge parts.old (W.contents writer.old) (W.contents writer.new)) }
+    ensures stopped { IfErr result (λ unmerged.
+        StopsMerge parts.old (W.contents writer.old) (W.contents writer.new) unmerged.fault) }
 {
-    let mut text = Vec::new(alloc);
-    match merge_parts(alloc, parts, &mut text) {
-        Ok(()) => Ok(text),
+    match merge_parts(alloc, parts, writer) {
+        Ok(()) => Ok(()),
         Err(fault) => {
             let met = fault;
             let told = told_of(parts, met);

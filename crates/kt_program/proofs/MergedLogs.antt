@@ -3,9 +3,8 @@ use Rattle.std.proofs.Common.{◌≡◌, ◌∙◌, ◌⊎◌, ℕ, List, [], �
 use Rattle.std.specs.Io.KnownBytes.{Appends}
 use Rattle.kt_meaning.proofs.Items.{get_push}
 use Rattle.kt_merge.specs.Reading.{PartRead, part_unread}
-use Rattle.kt_merge.specs.Merged.{IsMergedText}
 use Rattle.kt_program.specs.declared.line.Merging.{Merging}
-use Rattle.kt_program.specs.Merged.{AreReadFrom, LeavesLog, MergesTo}
+use Rattle.kt_program.specs.Merged.{AreReadFrom, IsMergedText, LeavesLog, MergesTo}
 use Rattle.kt_program.specs.Outputs.{TextGoesTo}
 use Rattle.kt_program.specs.Stored.{BytesTold}
 

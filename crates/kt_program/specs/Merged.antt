@@ -1,12 +1,12 @@
 -- What the program makes of parts that are to be merged.
-use Rattle.std.specs.Prelude.{◌≡◌, ◌≢◌, ◌⊎◌, ℕ, List, length, Some, Result, Ok, Err}
+use Rattle.std.specs.Prelude.{◌≡◌, ◌≢◌, ◌⊎◌, ℕ, List, [], length, Some, Result, Ok, Err}
 use Rattle.std.specs.List.{slice_get}
 use Rattle.std.specs.Io.KnownBytes.{Appends}
 use Rattle.kt_merge.specs.declared.part_fault.PartFault.TheVariants as part
 use Rattle.kt_merge.specs.Reading.{PartRead, part_unread}
 use Rattle.kt_merge.specs.declared.fault.MergeFault.{MergeFault}
 use Rattle.kt_merge.specs.declared.fault.MergeFault.TheVariants as merge
-use Rattle.kt_merge.specs.Merged.{IsMergedText}
+use Rattle.kt_merge.specs.Merging.{WritesMerge}
 use Rattle.kt_program.specs.declared.ending.Done.{Done}
 use Rattle.kt_program.specs.declared.fault.AppFault.{AppFault}
 use Rattle.kt_program.specs.declared.fault.AppFault.TheVariants as app
@@ -27,6 +27,10 @@ of_merge fault = app.Merge fault
 -- each part is what a file says
 abbrev pub AreReadFrom : {F : Type 0} → (F → BytesTold) → List PartRead → Type 0
 AreReadFrom {F} told parts = (p : ℕ) (part : PartRead) → slice_get parts p ≡ Some part → (file : F) × (part ≡ part_unread p (told file))
+
+-- a text is that of the log of all rows of these parts
+abbrev pub IsMergedText : List PartRead → List ℕ → Type 0
+IsMergedText parts text = WritesMerge parts (Some []) (Some text)
 
 -- the log of parts that files say, as many as are named, goes where it is asked for
 abbrev pub MergesTo : {F : Type 0} → (F → BytesTold) → Merging → BytesTold → BytesTold → Type 0
