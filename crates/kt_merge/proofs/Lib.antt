@@ -16,4 +16,4 @@ pub mod StopFacts
 pub mod MergingFacts
 mod Rowwise
 mod CausalRows
-mod CausalParts
+mod LimitsAlone

@@ -26,10 +26,12 @@ pub fn one_merge()
 {}
 
 /// Rows in order of which each process gives its names in order, and each name is given by a row that comes before each that
-/// uses it, have a log. So nothing stops the merge of such parts but readers, writers, memory and the limits of a log.
+/// uses it, have a log. Where the rows of parts have one, nothing stops their merge but readers, writers, memory and the limits
+/// of a log.
 pub fn causal_parts_merge()
     ensures log { (rows : List part_rows) → AllPairs IsNotLater rows → AreCausal rows →
         (log : List events) × (numbered (without_clocks rows) ≡ Some log) }
-    ensures faults { (parts : List parts_read) (rows : List part_rows) (old new : Option (List ℕ)) (fault : merge_faults) →
-        AreKnown parts → IsMergeOf parts rows → AreCausal rows → StopsMerge parts old new fault → IsOfLimits fault }
+    ensures faults { (parts : List parts_read) (rows : List part_rows) (log : List events) (old new : Option (List ℕ))
+        (fault : merge_faults) → AreKnown parts → IsMergeOf parts rows → numbered (without_clocks rows) ≡ Some log →
+        StopsMerge parts old new fault → IsOfLimits fault }
 {}

@@ -9,3 +9,4 @@ pub mod Messages
 pub mod Counts
 pub mod Reaching
 pub mod Looking
+mod NetMerges

@@ -7,3 +7,4 @@ pub mod Turns
 pub mod Reaches
 pub mod Links
 pub mod Looks
+pub mod NetParts

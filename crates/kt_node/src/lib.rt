@@ -15,6 +15,7 @@
 mod effects;
 mod faults;
 mod inputs;
+mod laws;
 mod manager;
 mod node;
 mod reach;
@@ -22,6 +23,7 @@ mod reach;
 pub use effects::{Effects, Parcels};
 pub use faults::ManagerFault;
 pub use inputs::Input;
+pub use laws::merges_of_nets;
 pub use manager::Manager;
 pub use node::{Envelope, Node, NodeFault, Output, Taken};
 pub use reach::Reach;

@@ -1,5 +1,5 @@
 use Rattle.kt_merge.proofs.CausalRows.{causal_log}
-use Rattle.kt_merge.proofs.CausalParts.{only_limits}
+use Rattle.kt_merge.proofs.LimitsAlone.{only_limits}
 use Rattle.kt_merge.proofs.laws.causal_parts_merge.Goals as goal
 
 pub returns-clause-log : goal.returns-clause-log

@@ -1,4 +1,4 @@
--- The merge of parts whose names are given before they are used does not stop.
+-- The merge of parts whose rows have a log does not stop.
 use Rattle.std.proofs.Common.{◌≡◌, ◌≢◌, ◌∙◌, ◌<◌, ◌≤◌, ◌+◌, ◌⊎◌, ℕ, Option, Some, None, List, [], ◌∷◌, ◌++◌, length, map, take, refl, sym, ap, subst, arith, inl, inr, length-append}
 use Rattle.std.specs.Prelude.{All, AllPairs, ◌==◌}
 use Rattle.std.specs.List.{slice_get}
@@ -22,12 +22,11 @@ use Rattle.kt_merge.specs.Reading.{PartRead}
 use Rattle.kt_merge.specs.Heads.{IsNotLater}
 use Rattle.kt_merge.specs.Numbering.{IsRowFault}
 use Rattle.kt_merge.specs.Merging.{Records, AreKnown, BeginsMerge, IsLeftOf, IsMergeFaultAfter, IsMergeOf, IsPartOf, SaysNext, StopsMerge, rows_of, without_clocks}
-use Rattle.kt_merge.specs.Causal.{AreCausal, IsOfLimits}
+use Rattle.kt_merge.specs.Causal.{IsOfLimits}
 use Rattle.kt_merge.proofs.SpellingFacts.{one_row}
 use Rattle.kt_text.proofs.FieldFacts.{first_and_rest}
 use Rattle.kt_merge.proofs.TextFacts.{GoesOnWith, goes_on_with, no_part}
 use Rattle.kt_merge.proofs.OneMerge.{after_first, both_ways, none_beyond, of_it, of_other, rest_sorted, stands}
-use Rattle.kt_merge.proofs.CausalRows.{causal_log}
 
 -- a process's rows go on after its first ones, and the next one comes after these
 pub record Remains (front rows : List PartRow) (p : ℕ) : Type 0 where
@@ -243,18 +242,18 @@ of_row_limits g p n q event row wrong.Name e h = absurd (cc (e, h.0))
 of_row_limits g p n q event row wrong.NotSent e h = absurd (cc (e, h.0))
 of_row_limits g p n q event row wrong.NotBegun e h = absurd (cc (e, h.0))
 
-pub only_limits : (parts : List PartRead) (rows : List PartRow) (old new : Option (List ℕ)) (fault : MergeFault) → AreKnown parts → IsMergeOf parts rows → AreCausal rows → StopsMerge parts old new fault → IsOfLimits fault
-only_limits parts rows old new merge.Write known merged causal s = tt
-only_limits parts rows old new merge.Memory known merged causal s = tt
-only_limits parts rows old new (merge.Part p fault) known merged causal s =
+pub only_limits : (parts : List PartRead) (rows : List PartRow) (log : List Event) (old new : Option (List ℕ)) (fault : MergeFault) → AreKnown parts → IsMergeOf parts rows → numbered (without_clocks rows) ≡ Some log
+    → StopsMerge parts old new fault → IsOfLimits fault
+only_limits parts rows log old new merge.Write known merged numbers s = tt
+only_limits parts rows log old new merge.Memory known merged numbers s = tt
+only_limits parts rows log old new (merge.Part p fault) known merged numbers s =
     let text = known p s.wrong.0 in
     let b = s.begins.begun p text.0 text.1 in
     let first : IsFirstPartFault p text.0 fault = record { rows = rows_of p s.rows; left = b.0; begins = b.1; wrong = s.wrong.2 b.0 (text.0, text.1, b.1) } in
     of_part_limits p fault (λ o. no_part p text.0 (rows_of p rows) fault o first (merged.whole p text.0 text.1))
-only_limits parts rows old new (merge.Row p n what) known merged causal s =
+only_limits parts rows log old new (merge.Row p n what) known merged numbers s =
     let w = s.wrong in
     let next = next_of_all parts rows s.rows s.log known merged s.begins p w.2 w.0 w.3 w.4 w.5 in
-    let whole = causal_log rows merged.sorted.sorted causal in
-    let number = number_after nothing_given (without_clocks s.rows) w.2.row (without_clocks next.0) s.log whole.0 s.begins.numbers
-    (subst (λ (l : List NamedRow). numbered l ≡ Some whole.0) (ap without_clocks next.1 ∙ map-append (λ (r : PartRow). r.row) s.rows (w.2 ∷ next.0)) whole.1) in
+    let number = number_after nothing_given (without_clocks s.rows) w.2.row (without_clocks next.0) s.log log s.begins.numbers
+    (subst (λ (l : List NamedRow). numbered l ≡ Some log) (ap without_clocks next.1 ∙ map-append (λ (r : PartRow). r.row) s.rows (w.2 ∷ next.0)) numbers) in
     of_row_limits (given_by nothing_given s.log) p n p w.2.row.event number.0 what (subst (λ (q : ℕ). numbered_event (given_by nothing_given s.log) q w.2.row.event ≡ Some number.0) w.3 number.1) w.6
