@@ -7,6 +7,7 @@
 
 static const char log_text[] = "sent,0,1,5\nreceived,1,0,1\nbegan,1,1,checkpoint\ntook,1,1,-\ndecided,1,1,commit\nclosed,1,1,-\n";
 static const char certificates[] = "cert,1,checkpoint,1,commit\nmember,1,1,0,-\n";
+static const char *const why[] = KT_WHY_WORDS, *const what[] = KT_WHAT_WORDS;
 
 int main(void) {
     const uint8_t *log = (const uint8_t *)log_text, *certs = (const uint8_t *)certificates;
@@ -16,8 +17,8 @@ int main(void) {
 
     uint32_t status = kt_check(log, log_len, certs, certs_len, &answer, &fault);
     if (status == KT_YES) printf("yes\n");
-    else if (status == KT_NO) printf("no: instance %u, row %u, reason %u\n", answer.inst, answer.row, answer.why);
-    else printf("fault %u in text %u, row or record %u\n", fault.what, fault.text, fault.place);
+    else if (status == KT_NO) printf("no: instance %u, row %u, %s\n", answer.inst, answer.row, why[answer.why]);
+    else printf("%s in text %u, row or record %u\n", what[fault.what], fault.text, fault.place);
 
     /* The first call tells how long the text is. */
     kt_explain(log, log_len, certs, certs_len, (uint8_t *)"", 0, &len, &fault);

@@ -12,3 +12,4 @@ try:
     koo_toueg.check(LOG + b"sent,0\n", CERTIFICATES)
 except koo_toueg.Fault as fault:
     print("refused:", fault)
+print(koo_toueg.merge([b"1,sent,0,1,5,m0.1\n", b"2,received,1,0,m0.1,-\n"]).decode(), end="")

@@ -80,6 +80,12 @@ enum kt_what {
     KT_WHAT_PARTS = 20     /* more than 64 parts are given */
 };
 
+/* The words of both, by number, as the program writes them: const char *const words[] = KT_WHY_WORDS; */
+#define KT_WHY_WORDS {"", "BadLog", "Unknown", "Cause", "Members", "Chain", "Orphan", "Missing", "NoChain"}
+#define KT_WHAT_WORDS {"", "read fault", "too long", "log version", "fields", "word", "number", "place", "memory", "BadLog", "NoChain", \
+    "no such rows", "picture too long", "clock", "process", "name", "not sent", "not begun", "too many rows", "too many instances", \
+    "too many parts"}
+
 /* A fault. A number is 0 where nothing is named: where there is no fault all are. */
 typedef struct kt_fault {
     uint32_t text;    /* in which text: 1 the log, 2 the certificates; of kt_merge 1 the part of process 0, 2 that of process 1,
