@@ -6,7 +6,7 @@ use Rattle.kt_spacetime.specs.declared.event.Event.{Event}
 use Rattle.kt_spacetime.specs.declared.named_rows.NamedEvent.{NamedEvent}
 use Rattle.kt_spacetime.specs.declared.named_rows.NamedEvent.TheVariants.{Sent, Received, Dropped, Began, Took, Ready, Unwilling, Decided, Closed, Failed, Refused}
 use Rattle.kt_spacetime.specs.declared.named_rows.NamedRow.{NamedRow}
-use Rattle.kt_meaning.specs.Names.{numbered}
+use Rattle.kt_meaning.specs.Names.{numbered, row_of}
 use Rattle.kt_meaning.specs.Promised.{IsPromised, IsCertified}
 use Rattle.kt_protocol.specs.States.{ProtocolStep, opening}
 use Rattle.kt_protocol.specs.LateSteps.{late_run}
@@ -57,7 +57,7 @@ from_none (Refused verb cause) = refl
 
 rows_as_they_are : (rows : List NamedRow) → rows_from 0 rows ≡ rows
 rows_as_they_are [] = refl
-rows_as_they_are (r ∷ rows) = cc (from_none r.event, rows_as_they_are rows)
+rows_as_they_are (r ∷ rows) = ap (λ (e : NamedEvent). row_of r.p e ∷ rows_from 0 rows) (from_none r.event) ∙ ap (λ (l : List NamedRow). r ∷ l) (rows_as_they_are rows)
 
 without : (rows : List PartRow) → map (λ (r : ClockedRow). r.row) (map clocked rows) ≡ without_clocks rows
 without [] = refl
