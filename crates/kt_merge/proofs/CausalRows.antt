@@ -1,5 +1,5 @@
 -- Rows in order of which each name was given before it is used have a log.
-use Rattle.std.proofs.Common.{◌≡◌, ◌≢◌, ◌∙◌, ◌<◌, ◌≤◌, ◌+◌, ◌⊎◌, ◌==◌, ℕ, Bool, true, Option, Some, None, option_map, List, [], ◌∷◌, ◌++◌, length, get_or, if◌then◌else◌, refl, sym, ap, subst, arith, inl, inr, append_assoc, length-append}
+use Rattle.std.proofs.Common.{◌≡◌, ◌≢◌, ◌∙◌, ◌<◌, ◌≤◌, ◌+◌, ◌==◌, ℕ, Bool, true, Option, Some, None, option_map, List, [], ◌∷◌, ◌++◌, length, get_or, if◌then◌else◌, refl, sym, ap, subst, arith, inl, inr, append_assoc, length-append}
 use Rattle.std.specs.Prelude.{◌&&◌, AllPairs}
 use Rattle.std.specs.List.{slice_get}
 use Rattle.std.specs.Option.{option_and_then}
@@ -15,11 +15,10 @@ use Rattle.kt_spacetime.specs.declared.named_rows.NamedCause.TheVariants as own_
 use Rattle.kt_spacetime.specs.declared.named_rows.NamedEvent.{NamedEvent}
 use Rattle.kt_spacetime.specs.declared.named_rows.NamedEvent.TheVariants as own
 use Rattle.kt_meaning.specs.Past.{at_one}
-use Rattle.kt_meaning.specs.Names.{Given, nothing_given, given_after, name_of, message_number, instance_number, numbered_cause, numbered_event, numbered_from, numbered}
-use Rattle.kt_meaning.proofs.PlaceFacts.{map_some, then_some, test_some, same_test, tested, at_some}
+use Rattle.kt_meaning.specs.Names.{Given, nothing_given, given_after, message_number, instance_number, numbered_cause, numbered_event, numbered_from, numbered}
+use Rattle.kt_meaning.proofs.PlaceFacts.{map_some, then_some, test_some, same_test, at_some}
 use Rattle.kt_meaning.proofs.NumberedFacts.{numbered_more}
 use Rattle.kt_meaning.proofs.Items.{get_left, get_push, get_seam, some_same}
-use Rattle.kt_meaning.proofs.RowRules.{both}
 use Rattle.kt_meaning.proofs.Shown.{at_same, at_other}
 use Rattle.kt_merge.specs.declared.part_rows.PartRow.{PartRow}
 use Rattle.kt_merge.specs.declared.giver.Name.{Name}

@@ -1,7 +1,6 @@
 -- The merge of parts whose rows have a log does not stop.
-use Rattle.std.proofs.Common.{◌≡◌, ◌≢◌, ◌∙◌, ◌<◌, ◌≤◌, ◌+◌, ◌⊎◌, ℕ, Option, Some, None, List, [], ◌∷◌, ◌++◌, length, map, take, refl, sym, ap, subst, arith, inl, inr, length-append}
+use Rattle.std.proofs.Common.{◌≡◌, ◌≢◌, ◌∙◌, ◌<◌, ◌≤◌, ◌⊎◌, ℕ, Option, Some, List, [], ◌∷◌, ◌++◌, length, map, refl, sym, ap, subst, arith, inl, inr, length-append}
 use Rattle.std.specs.Prelude.{All, AllPairs, ◌==◌}
-use Rattle.std.specs.List.{slice_get}
 use Rattle.std.proofs.lemmas.Bool.{cases_eq, cases_lt}
 use Rattle.std.proofs.lemmas.List.{append-nil, append_cancel_left, length-map, map-append}
 use Rattle.std.proofs.lemmas.List.Elements.{All-head, All-tail, filter-append}
@@ -17,11 +16,11 @@ use Rattle.kt_merge.specs.declared.fault.RowFault.TheVariants as wrong
 use Rattle.kt_merge.specs.declared.fault.MergeFault.{MergeFault}
 use Rattle.kt_merge.specs.declared.fault.MergeFault.TheVariants as merge
 use Rattle.kt_merge.specs.Spelling.{part_spelling}
-use Rattle.kt_merge.specs.Texts.{clock_after, BeginsPart, IsFirstPartFault, IsPartFrom, IsPartText, IsOfPartText, SaysRow}
+use Rattle.kt_merge.specs.Texts.{clock_after, BeginsPart, IsFirstPartFault, IsPartFrom, IsPartText, IsOfPartText}
 use Rattle.kt_merge.specs.Reading.{PartRead}
 use Rattle.kt_merge.specs.Heads.{IsNotLater}
 use Rattle.kt_merge.specs.Numbering.{IsRowFault}
-use Rattle.kt_merge.specs.Merging.{Records, AreKnown, BeginsMerge, IsLeftOf, IsMergeFaultAfter, IsMergeOf, IsPartOf, SaysNext, StopsMerge, rows_of, without_clocks}
+use Rattle.kt_merge.specs.Merging.{Records, AreKnown, BeginsMerge, IsLeftOf, IsMergeOf, IsPartOf, SaysNext, StopsMerge, rows_of, without_clocks}
 use Rattle.kt_merge.specs.Causal.{IsOfLimits}
 use Rattle.kt_merge.proofs.SpellingFacts.{one_row}
 use Rattle.kt_text.proofs.FieldFacts.{first_and_rest}

@@ -1,8 +1,9 @@
 -- Parts that files say, and where their log goes.
-use Rattle.std.proofs.Common.{◌≡◌, ◌∙◌, ◌⊎◌, ℕ, List, [], ◌∷◌, ◌++◌, length, inl, inr, subst, sym}
+use Rattle.std.proofs.Common.{◌≡◌, ◌∙◌, ◌⊎◌, ℕ, List, [], ◌∷◌, ◌++◌, length, inl, inr, refl, subst, sym}
 use Rattle.std.specs.Io.KnownBytes.{Appends}
 use Rattle.kt_meaning.proofs.Items.{get_push}
 use Rattle.kt_merge.specs.Reading.{PartRead, part_unread}
+use Rattle.kt_merge.specs.Merging.{WritesMerge, log_text}
 use Rattle.kt_program.specs.declared.line.Merging.{Merging}
 use Rattle.kt_program.specs.Merged.{AreReadFrom, IsMergedText, LeavesLog, MergesTo}
 use Rattle.kt_program.specs.Outputs.{TextGoesTo}
@@ -15,13 +16,11 @@ read_push told parts file read p part at = elim (get_push parts (part_unread (le
   | inr there ↦ (file, subst (λ (q : ℕ). part ≡ part_unread q (told file)) (sym there.0) there.1)
 ]
 
-module _ {F : Type 0} (told : F → BytesTold) (asked : Merging) (old new : BytesTold) (parts : List PartRead) (shown text : List ℕ) (same : shown ≡ text) (read : AreReadFrom told parts)
-    (long : length parts ≡ length asked.parts.items) (merged : IsMergedText parts text) where
-  -- their log goes where it is asked for
-  pub merges_to : TextGoesTo asked.log shown old new → MergesTo told asked old new
-  merges_to goes = (parts, read, long, text, merged, subst (λ (t : List ℕ). TextGoesTo asked.log t old new) same goes)
+-- what was merged has a text
+pub has_text : (parts : List PartRead) (old new : BytesTold) → WritesMerge parts old new → (text : List ℕ) × IsMergedText parts text
+has_text parts old new w = (log_text w.log, record { rows = w.rows; log = w.log; merged = w.merged; numbers = w.numbers; written = refl })
 
-  -- what is left on standard output
-  pub leaves_log : TextGoesTo asked.log shown old new → LeavesLog old new
-  leaves_log (inl goes) = inr (parts, text, merged, subst (λ (t : List ℕ). Appends old new t) same goes.1)
-  leaves_log (inr kept) = inl kept.1
+-- their log goes where it is asked for
+pub merges_to : {F : Type 0} (told : F → BytesTold) (asked : Merging) (old new : BytesTold) (parts : List PartRead) → AreReadFrom told parts → length parts ≡ length asked.parts.items → (text : List ℕ) → IsMergedText parts text
+    → TextGoesTo asked.log text old new → MergesTo told asked old new
+merges_to told asked old new parts read long text merged goes = (parts, read, long, text, merged, goes)

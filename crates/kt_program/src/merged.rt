@@ -45,9 +45,9 @@ pub(crate) fn merge_files<F: Files, O: Write>(
     let mut parts = parts_in(files, alloc, asked.parts.as_slice(), &mut read)?;
     if is_standard(asked.log) {
         print_merged(alloc, &mut parts, out)?;
-    } else {
-        merge_into(files, alloc, &mut parts, &read, asked.log)?;
+        return Ok(Done::Merged);
     }
+    merge_into(files, alloc, &mut parts, &read, asked.log)?;
     Ok(Done::Merged)
 }
 
