@@ -68,7 +68,7 @@ pub merged : (n : ℕ) (steps : List ProtocolStep) (rows : List PartRow)
     → ((n first : ℕ) (steps : List ProtocolStep) (log : List Event) → numbered (rows_from first (net_run (opening_net n first) steps).rows) ≡ Some log → IsCertified log)
     → ((n first : ℕ) (steps : List ProtocolStep) → map (λ r. r.row) (clocked_run (opening_clocked n first) steps).rows ≡ (net_run (opening_net n first) steps).rows)
     → ((n first : ℕ) (steps : List ProtocolStep) (rows : List ClockedRow) → AreByClock 0 0 rows → ((p : ℕ) → net.rows_of p rows ≡ net.rows_of p (clocked_run (opening_clocked n first) steps).rows)
-        → (ys : List ProtocolStep) × (rows ≡ (clocked_run (opening_clocked n first) ys).rows))
+    → (ys : List ProtocolStep) × (rows ≡ (clocked_run (opening_clocked n first) ys).rows))
     → AllPairs IsNotLater rows → AreRowsOfNet n steps rows → (log : List Event) × (numbered (without_clocks rows) ≡ Some log) × IsPromised log × IsCertified log
 merged n steps rows numbers promised certified unclocked sorted s of =
     let run = sorted n 0 steps (map clocked rows) (by_clock rows s) (λ p. each_part p rows ∙ of p) in

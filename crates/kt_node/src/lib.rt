@@ -9,7 +9,7 @@
 //! joining and closing `manager/instances.rt`; any parcel `manager/parcels.rt`; what a step needs of the object
 //! `manager/looks.rt`, `inputs.rt`, `specs/Looks`; what a step puts out `effects.rt`; when a call is refused `faults.rt`,
 //! `specs/Faults`; numbers and clocks `node.rt`, `specs/Links`; what its permanent checkpoint has `reach.rt`,
-//! `specs/Reaches`.
+//! `specs/Reaches`; the law of nodes' parts `laws.rt`, `specs/NetParts`.
 #![tactic(auto)]
 
 mod effects;

@@ -1,11 +1,10 @@
 -- Parts that files say, and where their log goes.
-use Rattle.std.proofs.Common.{◌≡◌, ◌∙◌, ◌⊎◌, ℕ, List, [], ◌∷◌, ◌++◌, length, inl, inr, refl, subst, sym}
-use Rattle.std.specs.Io.KnownBytes.{Appends}
+use Rattle.std.proofs.Common.{◌≡◌, ℕ, List, [], ◌∷◌, ◌++◌, length, inl, inr, refl, subst, sym}
 use Rattle.kt_meaning.proofs.Items.{get_push}
 use Rattle.kt_merge.specs.Reading.{PartRead, part_unread}
 use Rattle.kt_merge.specs.Merging.{WritesMerge, log_text}
 use Rattle.kt_program.specs.declared.line.Merging.{Merging}
-use Rattle.kt_program.specs.Merged.{AreReadFrom, IsMergedText, LeavesLog, MergesTo}
+use Rattle.kt_program.specs.Merged.{AreReadFrom, IsMergedText, MergesTo}
 use Rattle.kt_program.specs.Outputs.{TextGoesTo}
 use Rattle.kt_program.specs.Stored.{BytesTold}
 

@@ -4,9 +4,7 @@ use Rattle.kt_plan.specs.declared.steps.Step.{Step}
 use Rattle.kt_plan.specs.Limits.{Planned}
 use Rattle.kt_scenario.specs.Scenario.{IsScenario, IsFirstScenarioFault}
 use Rattle.kt_scenario.specs.Steps.{AreSteps, IsFirstStepFault}
-use Rattle.kt_scenario.specs.declared.fault.ScenarioFault.{ScenarioFault}
 use Rattle.kt_scenario.specs.declared.fault.ScenarioFault.TheVariants as scenario
-use Rattle.kt_scenario.specs.declared.fault.StepsFault.{StepsFault}
 use Rattle.kt_scenario.specs.declared.fault.StepsFault.TheVariants as steps
 use Rattle.kt_program.specs.declared.fault.AppFault.TheVariants as app
 use Rattle.kt_program.specs.declared.fault.ProgramFault.{ProgramFault}

@@ -1,4 +1,4 @@
-use Rattle.std.proofs.Common.{◌≡◌, ◌+◌, length, subst, sym, ap, arith, length-append}
+use Rattle.std.proofs.Common.{length, subst, sym, ap, arith, length-append}
 use Rattle.kt_program.specs.Merged.{AreReadFrom}
 use Rattle.kt_program.proofs.MergedLogs.{read_push}
 use Rattle.kt_program.proofs.merged.parts_in.Goals as goal
