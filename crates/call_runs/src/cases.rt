@@ -2,10 +2,11 @@
 
 use crate::entries::split_at_mark;
 
-// What ends a title, a piece and a case.
+// What ends a title, and a case.
 const LINE_FEED: &[u8] = b"\n";
 
-const PIECE_END: &[u8] = b"====\n";
+/// What ends a piece.
+pub(crate) const PIECE_END: &[u8] = b"====\n";
 
 const CASE_END: &[u8] = b"----\n";
 

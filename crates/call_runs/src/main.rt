@@ -1,11 +1,12 @@
 //! Shows what no clause says of the crates below the manager: that memory is found, how much there may be, and what is read
-//! of texts from outside and written, also where a reader or a writer fails; parts that are merged, and runs of nodes.
+//! of texts from outside and written, also where a reader or a writer fails; parts that are merged, and runs of nodes and clusters.
 #![tactic(auto)]
 
 mod cases;
 mod certificates;
 mod certified;
 mod channels;
+mod clusters;
 mod entries;
 mod failing;
 mod failing_reads;
@@ -40,7 +41,7 @@ use nodes::show_nodes;
 use objects::show_objects;
 use slots::show_slots;
 use std::io;
-use stored::{show_merges, show_stored_parts};
+use stored::{show_clusters, show_merges, show_stored_parts};
 use tables::show_tables;
 use texts::show_texts;
 
@@ -55,5 +56,6 @@ fn main(rt: HostRuntime) -> io::Result<()> {
     show_merges(&rt)?;
     show_merge_limits(&rt)?;
     show_stored_parts(&rt)?;
-    show_nodes(&rt)
+    show_nodes(&rt)?;
+    show_clusters(&rt)
 }

@@ -42,8 +42,8 @@ pub(crate) fn add<R: Read + Drop>(alloc: Global, parts: &mut Parts<R>, reader: R
     }
 }
 
-// Merges the parts of these pieces.
-fn merge<W: Write>(
+/// Merges the parts of these pieces.
+pub(crate) fn merge<W: Write>(
     alloc: Global,
     pieces: &[u8],
     writer: &mut W,

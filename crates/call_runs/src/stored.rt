@@ -1,6 +1,7 @@
-//! Stored parts, merged or read and written, case by case.
+//! Stored parts, merged or read and written, and stored runs of clusters, case by case.
 
 use crate::cases::{Case, next_case};
+use crate::clusters::show_cluster;
 use crate::faults::refused;
 use crate::merging::{show_merge_fault, show_run};
 use crate::parts::{show_part_fault, show_parts};
@@ -16,6 +17,7 @@ fn show_case<R: Print + AllocGlobal>(rt: &R, file: &str, case: &Case) -> io::Res
         }
         "merge-faults" => show_merge_fault(rt, case),
         "parts" => show_parts(rt, case),
+        "cluster-runs" => show_cluster(rt, case),
         _ => show_part_fault(rt, case),
     }
 }
@@ -48,4 +50,9 @@ pub(crate) fn show_merges(rt: &HostRuntime) -> io::Result<()> {
 pub(crate) fn show_stored_parts(rt: &HostRuntime) -> io::Result<()> {
     show_file(rt, "parts")?;
     show_file(rt, "part-faults")
+}
+
+/// Runs clusters by stored steps: shows their logs, whether they are the stored ones, and what is refused.
+pub(crate) fn show_clusters(rt: &HostRuntime) -> io::Result<()> {
+    show_file(rt, "cluster-runs")
 }

@@ -10,7 +10,8 @@ use Rattle.kt_protocol.specs.States.{ProtocolStep}
 use Rattle.kt_machine.specs.Acts.{stepper}
 use Rattle.kt_spacetime.specs.declared.named_rows.NamedEvent.{NamedEvent}
 use Rattle.kt_net.specs.Nodes.{NodeState, Input, Doing}
-use Rattle.kt_net.specs.Clocks.{Envelope, ClockedRow, ClockedNet, envelope, clocked_row, source_of, input_at, clock_after, clocked_doing, at_input, clocked_step, rows_of}
+use Rattle.kt_net.specs.declared.rows.ClockedRow.{ClockedRow}
+use Rattle.kt_net.specs.Clocks.{Envelope, ClockedNet, envelope, clocked_row, source_of, input_at, clock_after, clocked_doing, at_input, clocked_step, rows_of}
 
 -- without rows
 abbrev pub bare : ClockedNet → ClockedNet

@@ -4,7 +4,8 @@ use Rattle.std.specs.Prelude.{◌==◌, if◌then◌else◌}
 use Rattle.std.proofs.lemmas.Bool.Decides.{nat_tests}
 use Rattle.kt_protocol.proofs.Updates.{is_same}
 use Rattle.kt_protocol.specs.States.{ProtocolStep}
-use Rattle.kt_net.specs.Clocks.{ClockedRow, clocked_run, opening_clocked, rows_of, AreByClock}
+use Rattle.kt_net.specs.declared.rows.ClockedRow.{ClockedRow}
+use Rattle.kt_net.specs.Clocks.{clocked_run, opening_clocked, rows_of, AreByClock}
 use Rattle.kt_net.specs.Nets.{net_run, opening_net}
 use Rattle.kt_net.proofs.Sorting.{NotBefore, not_before_refl, not_before_then, sorted_run}
 use Rattle.kt_net.proofs.Unclocked.{rows_unclocked}

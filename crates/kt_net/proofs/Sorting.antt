@@ -10,7 +10,8 @@ use Rattle.kt_machine.specs.Acts.{stepper}
 use Rattle.kt_spacetime.specs.declared.named_rows.NamedEvent.{NamedEvent}
 use Rattle.kt_net.specs.Nodes.{Input}
 use Rattle.kt_net.specs.NodeSteps.{node_after}
-use Rattle.kt_net.specs.Clocks.{ClockedRow, ClockedNet, clocked_row, source_of, input_at, clocked_doing, at_input, clocked_step, clocked_run, opening_clocked, rows_of, AreByClock}
+use Rattle.kt_net.specs.declared.rows.ClockedRow.{ClockedRow}
+use Rattle.kt_net.specs.Clocks.{ClockedNet, clocked_row, source_of, input_at, clocked_doing, at_input, clocked_step, clocked_run, opening_clocked, rows_of, AreByClock}
 use Rattle.kt_net.proofs.Inputs.{clock_rises}
 use Rattle.kt_net.proofs.BothOrders.{bare, Same, same_refl, same_then, HappensAt, clock_at, step_is}
 use Rattle.kt_net.proofs.Swaps.{swap}

@@ -15,7 +15,8 @@ use Rattle.kt_net.specs.Nodes.{NodeState, Input, Doing, nothing, is_in_rollback}
 use Rattle.kt_net.specs.Nodes as input
 use Rattle.kt_net.specs.NodeSteps.{is_step, node_after}
 use Rattle.kt_net.specs.Nets.{Net, with_doing, with_rest, has_some, net_front, net_step, net_run, opening_net}
-use Rattle.kt_net.specs.Clocks.{Envelope, ClockedRow, ClockedNet, envelope, clocked_row, front_input, clock_after, left_after, clocked_doing, at_input, clocked_step, clocked_run, opening_clocked}
+use Rattle.kt_net.specs.declared.rows.ClockedRow.{ClockedRow}
+use Rattle.kt_net.specs.Clocks.{Envelope, ClockedNet, envelope, clocked_row, front_input, clock_after, left_after, clocked_doing, at_input, clocked_step, clocked_run, opening_clocked}
 
 -- what is put without its clock
 abbrev parcels : List Envelope → List NodeParcel
@@ -99,7 +100,7 @@ step_unclocked w (Take p q able) = at_test (not (is_in_rollback (w.nodes p)) && 
     at_test true = own_input w p q (input.Held q) refl
     at_test false = front (w.channel q p) refl
 
-run_unclocked : (w : ClockedNet) (xs : List ProtocolStep) → unclocked (clocked_run w xs) ≡ net_run (unclocked w) xs
+pub run_unclocked : (w : ClockedNet) (xs : List ProtocolStep) → unclocked (clocked_run w xs) ≡ net_run (unclocked w) xs
 run_unclocked w [] = refl
 run_unclocked w (x ∷ xs) = run_unclocked (clocked_step w x) xs ∙ ap (λ (u : Net). net_run u xs) (step_unclocked w x)
 

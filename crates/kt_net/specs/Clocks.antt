@@ -3,23 +3,20 @@ use Rattle.std.specs.Prelude.{ℕ, ◌+◌, ◌<◌, ◌≤◌, ◌≡◌, ◌�
 use Rattle.kt_meaning.specs.Past.{at_one}
 use Rattle.kt_protocol.specs.States.{ProtocolStep, Send, Begin, Fail, Take}
 use Rattle.kt_machine.specs.Acts.{stepper}
-use Rattle.kt_spacetime.specs.declared.named_rows.NamedRow.{NamedRow}
+use Rattle.kt_machine.specs.Values.{Act}
 use Rattle.kt_spacetime.specs.declared.named_rows.NamedEvent.{NamedEvent}
 use Rattle.kt_meaning.specs.Names.{row_of}
 use Rattle.kt_net.specs.declared.parcels.NodeParcel.{NodeParcel}
+use Rattle.kt_net.specs.declared.rows.ClockedRow.{ClockedRow}
 use Rattle.kt_net.specs.Nodes.{NodeState, Input, is_in_rollback}
 use Rattle.kt_net.specs.Nodes as input
 use Rattle.kt_net.specs.NodeSteps.{is_step, node_after}
 use Rattle.kt_net.specs.Nets.{has_some, opening_net}
 
--- a parcel on its way, and a row, each with the clock of the step that put it or told it
+-- a parcel on its way, with the clock of the step that put it
 pub record Envelope : Type 0 where
   pub clock : ℕ
   pub parcel : NodeParcel
-
-pub record ClockedRow : Type 0 where
-  pub clock : ℕ
-  pub row : NamedRow
 
 -- a net, and each node's clock
 pub record ClockedNet : Type 0 where
@@ -85,8 +82,19 @@ abbrev pub at_input : ClockedNet → ℕ → ℕ → Option Input → ClockedNet
 at_input w p q None = w
 at_input w p q (Some i) = clocked_doing w p q i
 
+-- a step of one node, and the acts of its object in order
+abbrev pub clocked_input : ClockedNet → ProtocolStep → Option Input
+clocked_input w x = input_at (w.nodes (stepper x)) x (w.channel (source_of x) (stepper x))
+
 abbrev pub clocked_step : ClockedNet → ProtocolStep → ClockedNet
-clocked_step w x = at_input w (stepper x) (source_of x) (input_at (w.nodes (stepper x)) x (w.channel (source_of x) (stepper x)))
+clocked_step w x = at_input w (stepper x) (source_of x) (clocked_input w x)
+
+abbrev pub acts_at : NodeState → Option Input → List Act
+acts_at y None = []
+acts_at y (Some i) = (node_after y i).acts
+
+abbrev pub clocked_acts : ClockedNet → ProtocolStep → List Act
+clocked_acts w x = acts_at (w.nodes (stepper x)) (clocked_input w x)
 
 abbrev pub clocked_run : ClockedNet → List ProtocolStep → ClockedNet
 clocked_run w [] = w

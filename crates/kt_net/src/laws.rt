@@ -15,7 +15,8 @@ ghost use Rattle.kt_net.specs.NodeSteps.{node_after};
 ghost use Rattle.kt_net.specs.NodeLooks.{where_able, would_save};
 ghost use Rattle.kt_net.specs.NodeHistories.{histories, calls_told, GoesOn, HasCheckpoints};
 ghost use Rattle.kt_net.specs.Nets.{net_step, net_run, opening_net, net_acts};
-ghost use Rattle.kt_net.specs.Clocks.{ClockedRow, clocked_run, opening_clocked, rows_of, AreByClock};
+ghost use Rattle.kt_net.specs.declared.rows.ClockedRow.{ClockedRow};
+ghost use Rattle.kt_net.specs.Clocks.{clocked_run, opening_clocked, rows_of, AreByClock};
 ghost use Rattle.kt_net.specs.Erasing.{name_in, erased_node, erased_parcels, rows_from};
 
 /// For every number of nodes, every label that they count on from, and every list of steps: a net is what is seen of

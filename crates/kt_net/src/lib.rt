@@ -5,11 +5,12 @@
 //!
 //! **What to change where:** what a node has `specs/Nodes`; its rules `specs/NodeMessages`, `specs/NodeJoining`,
 //! `specs/NodeClosing`, `specs/NodeSteps`; what a step needs of its object `specs/NodeLooks`; what is in its permanent
-//! checkpoint `specs/NodeHistories`; nets `specs/Nets`; parcels `parcels.rt`.
+//! checkpoint `specs/NodeHistories`; nets `specs/Nets`; parcels `parcels.rt`; rows with clocks `rows.rt`, `specs/Clocks`.
 #![tactic(auto)]
 
 mod laws;
 mod parcels;
+mod rows;
 mod worked;
 
 pub use laws::{
@@ -17,4 +18,5 @@ pub use laws::{
     permanent_checkpoints,
 };
 pub use parcels::NodeParcel;
+pub use rows::ClockedRow;
 pub use worked::worked_nets;

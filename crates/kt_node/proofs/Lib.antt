@@ -10,3 +10,6 @@ pub mod Counts
 pub mod Reaching
 pub mod Looking
 mod NetMerges
+pub mod OnWay
+pub mod Clustering
+pub mod Turning

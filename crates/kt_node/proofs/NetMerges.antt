@@ -10,7 +10,8 @@ use Rattle.kt_meaning.specs.Promised.{IsPromised, IsCertified}
 use Rattle.kt_protocol.specs.States.{ProtocolStep, opening}
 use Rattle.kt_protocol.specs.LateSteps.{late_run}
 use Rattle.kt_net.specs.Nets.{net_run, opening_net}
-use Rattle.kt_net.specs.Clocks.{ClockedRow, clocked_run, opening_clocked, AreByClock}
+use Rattle.kt_net.specs.declared.rows.ClockedRow.{ClockedRow}
+use Rattle.kt_net.specs.Clocks.{clocked_run, opening_clocked, AreByClock}
 use Rattle.kt_net.specs.Clocks as net
 use Rattle.kt_net.specs.Erasing.{event_from, rows_from}
 use Rattle.kt_merge.specs.declared.part_rows.PartRow.{PartRow}

@@ -104,7 +104,7 @@ has_same r calls h = subst (λ (x : List Call). HasReaches r x) (sym (append-nil
 pub has_both : (r : Reaches) (calls front rest : List Call) → HasReaches r ((calls ++ front) ++ rest) → HasReaches r (calls ++ (front ++ rest))
 has_both r calls front rest h = subst (λ (x : List Call). HasReaches r x) (append_assoc calls front rest) h
 
-rows_told-append : (front rest : List (Option NamedEvent)) → rows_told (front ++ rest) ≡ rows_told front ++ rows_told rest
+pub rows_told-append : (front rest : List (Option NamedEvent)) → rows_told (front ++ rest) ≡ rows_told front ++ rows_told rest
 rows_told-append [] rest = refl
 rows_told-append (None ∷ front) rest = rows_told-append front rest
 rows_told-append (Some row ∷ front) rest = ap (λ (x : List NamedEvent). row ∷ x) (rows_told-append front rest)

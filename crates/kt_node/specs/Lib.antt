@@ -8,3 +8,4 @@ pub mod Reaches
 pub mod Links
 pub mod Looks
 pub mod NetParts
+pub mod Clusters

@@ -1,7 +1,8 @@
 -- The parts that nodes of a net write.
 use Rattle.std.specs.Prelude.{◌≡◌, ℕ, List, map}
 use Rattle.kt_protocol.specs.States.{ProtocolStep}
-use Rattle.kt_net.specs.Clocks.{ClockedRow, clocked_run, opening_clocked, rows_of}
+use Rattle.kt_net.specs.Clocks.{clocked_run, opening_clocked, rows_of}
+use Rattle.kt_net.specs.declared.rows.ClockedRow.{ClockedRow}
 use Rattle.kt_merge.specs.declared.part_rows.PartRow.{PartRow}
 use Rattle.kt_merge.specs.Merging as merge
 

@@ -9,9 +9,11 @@
 //! joining and closing `manager/instances.rt`; any parcel `manager/parcels.rt`; what a step needs of the object
 //! `manager/looks.rt`, `inputs.rt`, `specs/Looks`; what a step puts out `effects.rt`; when a call is refused `faults.rt`,
 //! `specs/Faults`; numbers and clocks `node.rt`, `specs/Links`; what its permanent checkpoint has `reach.rt`,
-//! `specs/Reaches`; the law of nodes' parts `laws.rt`, `specs/NetParts`.
+//! `specs/Reaches`; nodes with links in one program `cluster.rt`, one step of theirs `cluster/turns.rt`, which net they are
+//! `specs/Clusters`; the law of nodes' parts `laws.rt`, `specs/NetParts`.
 #![tactic(auto)]
 
+mod cluster;
 mod effects;
 mod faults;
 mod inputs;
@@ -20,6 +22,7 @@ mod manager;
 mod node;
 mod reach;
 
+pub use cluster::{Cluster, ClusterFault, ClusterStep};
 pub use effects::{Effects, Parcels};
 pub use faults::ManagerFault;
 pub use inputs::Input;

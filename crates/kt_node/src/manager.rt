@@ -1,6 +1,6 @@
 //! A manager: what it holds, and what can be read of it.
 
-ghost use Rattle.std.specs.Prelude.{◌≡◌, ◌<◌, ◌≤◌, ℕ, true, false, Some, None, IfOk, IfErr, IfSome, IfNone, OnOk};
+ghost use Rattle.std.specs.Prelude.{◌≡◌, ◌<◌, ◌≤◌, ◌&&◌, not, ℕ, true, false, Some, None, IfOk, IfErr, IfSome, IfNone, OnOk};
 ghost use Rattle.kt_process.specs.ProcessStates.{is_ready};
 ghost use Rattle.kt_net.specs.Nodes.{NodeState, is_in_rollback};
 ghost use Rattle.kt_net.specs.NodeSteps.{is_in, is_one};
@@ -115,6 +115,14 @@ impl Manager {
         ensures { (y : NodeState) → ShowsNode self.now y → result ≡ has_some (y.held from) }
     {
         self.held.front(from, self.me).is_some()
+    }
+
+    /// Whether it could take something now that it holds of a process.
+    pub(crate) fn holds_next(&self, from: ProcNo) -> bool
+        ensures { (y : NodeState) → ShowsNode self.now y →
+            result ≡ (not (is_in_rollback y) && has_some (y.held from)) }
+    {
+        !self.is_in_rollback() && (from.index() < self.size && self.holds(from))
     }
 
     /// The least process of which it holds something that it could take now.

@@ -1,12 +1,12 @@
 //! A node: a manager whose parcels have numbers, by sender and receiver, and whose steps have clocks.
 
-ghost use Rattle.std.specs.Prelude.{◌≡◌, ◌<◌, ◌≤◌, ◌+◌, ◌-◌, ◌^◌, ◌++◌, ℕ, List, max, length, slice_index, Some, IfOk, IfErr, IfSome, OnErr, IsErrOf};
+ghost use Rattle.std.specs.Prelude.{◌≡◌, ◌<◌, ◌≤◌, ◌+◌, ◌-◌, ◌^◌, ◌++◌, ℕ, List, max, length, slice_index, true, Some, IfOk, IfErr, IfSome, OnOk, OnErr, IsErrOf};
 ghost use Rattle.std.specs.Option.{option_to_list, option_map};
 ghost use Rattle.kt_meaning.specs.Past.{at_one, is_rollback_kind};
 ghost use Rattle.kt_tables.specs.Calls.{Call, receiveds, Speaks};
 ghost use Rattle.kt_tables.specs.Labels.{greatest};
 ghost use Rattle.kt_net.specs.Nodes.{NodeState, Send, Begin, Fail, Held, Comes};
-ghost use Rattle.kt_net.specs.NodeSteps.{node_after};
+ghost use Rattle.kt_net.specs.NodeSteps.{is_step, node_after};
 ghost use Rattle.kt_net.specs.NodeHistories.{histories, sent_labels};
 ghost use Rattle.kt_net.specs.Nets.{opening_net};
 ghost use Rattle.kt_node.specs.Managers.{ShowsNode};
@@ -165,6 +165,13 @@ impl Node {
         }
     }
 
+    /// The number of the next parcel of a process.
+    pub(crate) fn next(&self, from: ProcNo) -> u64
+        ensures { result ≡ slice_index self.now.taken from + 1 }
+    {
+        self.taken[from.index()] + 1
+    }
+
     /// How far the messages go that its permanent checkpoint has, and which no rollback undoes: of each process the greatest
     /// label that it received, and the greatest one that it sent.
     pub fn permanent(&self) -> &Reach
@@ -236,6 +243,8 @@ impl Node {
         ensures done { (y : NodeState) → ShowsNode self.old.manager y →
             Speaks ((node_after y (Send to body)).state.calls) →
             IfOk result (IsStep self.old self.new 0 y (Send to body)) }
+        ensures step { (y : NodeState) → ShowsNode self.old.manager y →
+            OnOk result (is_step y (Send to body) ≡ true) }
         ensures refused { (y : NodeState) → ShowsNode self.old.manager y →
             IsNodeRefusedAs (fault_at y (Send to body)) result }
         ensures spent { IsErrOf result fault.ClockSpent → 2 ^ 64 - 2 ≤ self.old.clock }

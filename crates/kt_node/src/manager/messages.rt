@@ -6,7 +6,7 @@ ghost use Rattle.kt_fifo.specs.declared.parcels.Parcel.TheVariants as parcel;
 ghost use Rattle.kt_tables.specs.Calls.{Speaks};
 ghost use Rattle.kt_net.specs.Nodes.{NodeState, Send, Fail, Held};
 ghost use Rattle.kt_net.specs.NodeMessages.{arriving, refusing};
-ghost use Rattle.kt_net.specs.NodeSteps.{node_after, taking};
+ghost use Rattle.kt_net.specs.NodeSteps.{is_step, node_after, taking};
 ghost use Rattle.kt_net.specs.declared.parcels.NodeParcel.TheVariants as sent;
 ghost use Rattle.kt_node.specs.declared.faults.ManagerFault.TheVariants as fault;
 ghost use Rattle.kt_net.specs.Erasing.{erased_parcel};
@@ -29,6 +29,8 @@ impl Manager {
         ensures done { (y : NodeState) → ShowsNode self.old y →
             Speaks ((node_after y (Send to body)).state.calls) →
             IfOk result (λ e. IsDone self.new e (node_after y (Send to body))) }
+        ensures step { (y : NodeState) → ShowsNode self.old y →
+            OnOk result (is_step y (Send to body) ≡ true) }
         ensures refused { (y : NodeState) → ShowsNode self.old y →
             IsRefusedAs (fault_at y (Send to body)) result }
         ensures err { OnErr result (self.new ≡ self.old) }

@@ -1,0 +1,72 @@
+-- What comes to a node at a step, and what it makes of it.
+use Rattle.std.proofs.Common.{◌≡◌, ◌∙◌, ℕ, ◌+◌, Bool, true, false, Some, None, List, [], ◌∷◌, max, drop, refl, sym, ap, ap₂, subst, arith, inl, inr}
+use Rattle.std.specs.Prelude.{◌==◌, ◌&&◌, not, if◌then◌else◌, Option, Ok, Err, slice_index_or}
+use Rattle.std.specs.List.{remove}
+use Rattle.std.proofs.lemmas.Bool.{cases_eq}
+use Rattle.kt_protocol.specs.States.{ProtocolStep, Take}
+use Rattle.kt_protocol.proofs.Updates.{is_other}
+use Rattle.kt_machine.specs.Acts.{stepper}
+use Rattle.kt_net.specs.Nodes.{NodeState, Input, Held, Comes, is_in_rollback}
+use Rattle.kt_net.specs.Nets.{has_some}
+use Rattle.kt_net.specs.Clocks.{Envelope, envelope, source_of, front_input, input_at, clock_after, left_after}
+use Rattle.kt_node.specs.declared.cluster.OnWay.{OnWay}
+use Rattle.kt_node.specs.declared.faults.ManagerFault.{ManagerFault}
+use Rattle.kt_node.specs.declared.node.NodeFault.{NodeFault}
+use Rattle.kt_node.specs.declared.node.NodeFault.TheVariants as fault
+use Rattle.kt_node.specs.declared.node.Output.{Output}
+use Rattle.kt_node.specs.Clusters.{link, IsFront, IsTurn}
+use Rattle.kt_node.specs.Links.{NodeLinks, IsStep, IsNodeRefusedAs, IsParcelRefusedAs}
+use Rattle.kt_node.proofs.OnWay.{both_same, nobody, front_comes, front_left}
+
+-- nothing is taken of a link
+same_left : (xs : List OnWay) (q p u v : ℕ) → link xs u v ≡ (if u == q && v == p then link xs q p else link xs u v)
+same_left xs q p u v = elim (cases_eq u q) [
+  | inl s ↦ elim (cases_eq v p) [
+      | inl t ↦ ap₂ (link xs) s t ∙ ap (λ (b : Bool). if b then link xs q p else link xs u v) (sym (ap₂ (λ (a b : ℕ). a == q && b == p) s t ∙ both_same q p))
+      | inr t ↦ ap (λ (b : Bool). if b then link xs q p else link xs u v) (sym (ap (λ (b : Bool). (u == q) && b) (is_other v p t) ∙ nobody (u == q)))
+    ]
+  | inr s ↦ ap (λ (b : Bool). if b then link xs q p else link xs u v) (sym (ap (λ (b : Bool). b && (v == p)) (is_other u q s)))
+]
+
+next_clock : (c : ℕ) → max c 0 + 1 ≡ c + 1
+next_clock c = omega arith
+
+-- a step that takes nothing of a link
+pub own_turn : (old new : NodeLinks) (ways : List OnWay) (y : NodeState) (x : ProtocolStep) (i : Input) (out : Output) → input_at y x (link ways (source_of x) (stepper x)) ≡ Some i
+    → ((c : ℕ) (es : List Envelope) → clock_after c i es ≡ c + 1) → ((es : List Envelope) → left_after i es ≡ es) → IsStep old new 0 y i out → IsTurn old new ways ways y x out
+own_turn old new ways y x i out e ticks left s = record {
+  input = i;
+  comes = e;
+  done = s.done;
+  reaches = s.reaches;
+  clock = s.clock ∙ (next_clock old.clock ∙ sym (ticks old.clock (link ways (source_of x) (stepper x))));
+  told = s.told;
+  left = λ u v. same_left ways (source_of x) (stepper x) u v ∙ ap (λ (es : List Envelope). if u == source_of x && v == stepper x then es else link ways u v) (sym (left (link ways (source_of x) (stepper x))));
+}
+
+-- what comes to a process that could take what it holds, and to one that could not
+pub held_comes : (b : Bool) (q : ℕ) (o : Option Input) → b ≡ true → (if b then Some (Held q) else o) ≡ Some (Held q)
+held_comes b q o e = ap (λ (t : Bool). if t then Some (Held q) else o) e
+
+pub front_input_is : (b : Bool) (q : ℕ) (able : Bool) (es rest : List Envelope) (e : Envelope) → b ≡ false → es ≡ e ∷ rest → (if b then Some (Held q) else front_input q able es) ≡ Some (Comes q able e.parcel)
+front_input_is b q able es rest e t is = ap (λ (s : Bool). if s then Some (Held q) else front_input q able es) t ∙ ap (front_input q able) is
+
+-- a step that takes the front of a link
+pub front_turn : (old new : NodeLinks) (before after : List OnWay) (y : NodeState) (p q place : ℕ) (able : Bool) (x : OnWay) (out : Output) → IsFront before q p place → x ≡ slice_index_or before place x
+    → (not (is_in_rollback y) && has_some (y.held q)) ≡ false → after ≡ remove before place → IsStep old new x.clock y (Comes q able x.parcel) out → IsTurn old new before after y (Take p q able) out
+front_turn old new before after y p q place able x out f e t is s =
+    let front = front_comes before q p place x f e in record {
+      input = Comes q able x.parcel;
+      comes = front_input_is (not (is_in_rollback y) && has_some (y.held q)) q able (link before q p) (link (remove before place) q p) (envelope x.clock x.parcel) t front;
+      done = s.done;
+      reaches = s.reaches;
+      clock = s.clock ∙ sym (ap (clock_after old.clock (Comes q able x.parcel)) front);
+      told = s.told;
+      left = λ u v. ap (λ (l : List OnWay). link l u v) is ∙ front_left before q p place x f e u v;
+    }
+
+-- a parcel that is the next one of its sender is refused as any other input
+pub refused_front : (o : Option ManagerFault) (f : NodeFault) → IsParcelRefusedAs o (Err f) → ((n : ℕ) → f ≡ fault.Gap n → ⊥) → IsNodeRefusedAs o (Err f)
+refused_front o (fault.Gap n) h g = g n refl
+refused_front o fault.ClockSpent h g = tt
+refused_front o (fault.Manager f) h g = h
