@@ -1,10 +1,12 @@
 -- One step of a cluster is one of the net that it is.
-use Rattle.std.proofs.Common.{◌≡◌, ◌≢◌, ◌∙◌, ℕ, ◌+◌, ◌<◌, ◌≤◌, Bool, true, false, Some, None, List, [], ◌∷◌, ◌++◌, length, map, max, refl, sym, ap, ap₂, subst, arith, inl, inr}
-use Rattle.std.specs.Prelude.{◌==◌, ◌&&◌, if◌then◌else◌, Option, Result, Ok, Err, slice_index_or, slice_set}
+use Rattle.std.proofs.Common.{◌≡◌, ◌≢◌, ◌∙◌, ℕ, ◌<◌, Some, List, [], ◌∷◌, ◌++◌, length, map, refl, sym, ap, ap₂, subst, arith, inl, inr}
+use Rattle.std.specs.Prelude.{◌==◌, ◌&&◌, if◌then◌else◌, Option, Result, Ok, Err, IsErr, IsErrAnd, slice_index_or, slice_set}
+use Rattle.std.proofs.lemmas.Option.{get_or_from_slice_get}
+use Rattle.kt_meaning.proofs.Items.{item_there}
+use Rattle.kt_system.specs.ShownActs.{acts_shown}
 use Rattle.std.proofs.Math.Seq.{get_or-append_seam}
 use Rattle.std.proofs.lemmas.Bool.{cases_eq}
 use Rattle.std.proofs.lemmas.List.{get_or-set_same, get_or-set_other, get_or_append_left, length-set, length_push}
-use Rattle.kt_meaning.specs.Past.{at_one}
 use Rattle.kt_meaning.specs.Names.{numbered}
 use Rattle.kt_meaning.specs.Promised.{IsPromised, IsCertified}
 use Rattle.kt_protocol.specs.States.{ProtocolStep, opening}
@@ -14,7 +16,7 @@ use Rattle.kt_machine.specs.Acts.{stepper}
 use Rattle.kt_spacetime.specs.declared.event.Event.{Event}
 use Rattle.kt_spacetime.specs.declared.named_rows.NamedEvent.{NamedEvent}
 use Rattle.kt_spacetime.specs.declared.named_rows.NamedRow.{NamedRow}
-use Rattle.kt_tables.specs.Calls.{Call, Speaks}
+use Rattle.kt_tables.specs.Calls.{Speaks}
 use Rattle.kt_net.specs.Nodes.{NodeState, Input}
 use Rattle.kt_net.specs.NodeSteps.{node_after}
 use Rattle.kt_net.specs.Nets.{Net, net_step, net_run, opening_net}
@@ -22,7 +24,7 @@ use Rattle.kt_net.specs.Clocks.{Envelope, ClockedNet, envelope, clocked_row, sou
 use Rattle.kt_net.specs.Erasing.{rows_from}
 use Rattle.kt_net.specs.declared.parcels.NodeParcel.{NodeParcel}
 use Rattle.kt_net.specs.declared.rows.ClockedRow.{ClockedRow}
-use Rattle.kt_net.proofs.Unclocked.{unclocked, step_unclocked, run_unclocked, rows_unclocked}
+use Rattle.kt_net.proofs.Unclocked.{step_unclocked, run_unclocked, rows_unclocked}
 use Rattle.kt_node.specs.declared.cluster.ClusterFault.{ClusterFault}
 use Rattle.kt_node.specs.declared.cluster.ClusterFault.TheVariants as fault
 use Rattle.kt_node.specs.declared.cluster.OnWay.{OnWay}
@@ -173,3 +175,56 @@ fresh_push nodes processes first x h s = record {
         subst (λ (n : NodeLinks). ShowsClocked n ((opening_net processes first).nodes p) 0) (sym (get_or_append_left nodes (x ∷ []) k p b)) (h.fresh p k b))
   ];
 }
+
+-- one step of a cluster, whose node makes this turn
+module _ (c : ClusterState) (x : ProtocolStep) (nodes : List NodeLinks) (after way : List OnWay) (rows : List ClockedRow) (few : stepper x < 64) (b : stepper x < length c.nodes) where
+  abbrev pub after_step : ClusterState
+  after_step = record { nodes = nodes; on_way = way; rows = rows; first = c.first }
+
+  -- the node that steps, as it was
+  stepping : (k : NodeLinks) × (slice_index_or c.nodes (stepper x) k ≡ k)
+  stepping = let there = item_there c.nodes (stepper x) b in (there.0, get_or_from_slice_get c.nodes (stepper x) there.0 there.0 there.1)
+
+  abbrev Others : Type 0
+  Others = (k : NodeLinks) → nodes ≡ slice_set c.nodes (stepper x) (slice_index_or nodes (stepper x) k)
+
+  pub as_many : Others → length nodes ≡ length c.nodes
+  as_many others = ap length (others stepping.0) ∙ size_set c.nodes (stepper x) (slice_index_or nodes (stepper x) stepping.0)
+
+  module _ (out : Output) (others : Others) (law : SpeakNext)
+      (turn : (y : NodeState) (k : NodeLinks) → ShowsNode (slice_index_or c.nodes (stepper x) k).manager y → IsSpeakable y x (link c.on_way (source_of x) (stepper x))
+      → IsTurn (slice_index_or c.nodes (stepper x) k) (slice_index_or nodes (stepper x) k) c.on_way after y x out)
+      (put : (u v : ℕ) → v < 64 → link way u v ≡ link after u v ++ (if u == stepper x then map (envelope out.clock) (put_to out.effects.parcels v) else []))
+      (told : rows ≡ c.rows ++ map (clocked_row (stepper x) out.clock) (rows_told out.effects.rows)) (steps : List ProtocolStep) (s : IsRun c steps) where
+    its_turn : IsTurn stepping.0 (slice_index_or nodes (stepper x) stepping.0) c.on_way after ((net_after c steps).nodes (stepper x)) x out
+    its_turn = subst (λ (o : NodeLinks). IsTurn o (slice_index_or nodes (stepper x) stepping.0) c.on_way after ((net_after c steps).nodes (stepper x)) x out) stepping.1
+        (turn ((net_after c steps).nodes (stepper x)) stepping.0 (s.nodes (stepper x) stepping.0 b).node.manager (speaks_there law c steps x s few))
+
+    pub step_runs : IsRun after_step (steps ++ x ∷ [])
+    step_runs = runs_on c after_step steps x (as_many others) refl
+        (subst (λ (ns : List NodeLinks). ShowsNet (record { nodes = ns; on_way = way; rows = rows; first = c.first }) (clocked_step (net_after c steps) x)) (sym (others stepping.0))
+        (shows_turn c (net_after c steps) x stepping.0 (slice_index_or nodes (stepper x) stepping.0) after way rows out s few b (sym stepping.1) its_turn put told))
+
+    pub step_acts : acts_shown out.effects.acts ≡ clocked_acts (net_after c steps) x
+    step_acts = its_turn.done.acts ∙ acts_there c (net_after c steps) x stepping.0 (slice_index_or nodes (stepper x) stepping.0) after out s few its_turn
+
+  -- a step that is refused leaves the net as it was
+  pub stays : Others → ((k : NodeLinks) → IsSameNode (slice_index_or nodes (stepper x) k) (slice_index_or c.nodes (stepper x) k)) → way ≡ c.on_way → rows ≡ c.rows → (steps : List ProtocolStep) → IsRun c steps → IsRun after_step steps
+  stays others same e f steps s = stays_run c after_step steps (as_many others) refl
+      (subst (λ (ns : List NodeLinks). ShowsNet (record { nodes = ns; on_way = way; rows = rows; first = c.first }) (net_after c steps)) (sym (others stepping.0))
+      (shows_refused c (net_after c steps) (stepper x) stepping.0 (slice_index_or nodes (stepper x) stepping.0) way rows s b (sym stepping.1)
+      (subst (IsSameNode (slice_index_or nodes (stepper x) stepping.0)) stepping.1 (same stepping.0)) e f))
+
+  -- why it is refused
+  pub refusal : {X : Type 0} (r : Result X ClusterFault)
+      → ((y : NodeState) (k : NodeLinks) → ShowsNode (slice_index_or c.nodes (stepper x) k).manager y → IsRefusedIn y (coming y x (link c.on_way (source_of x) (stepper x))) r)
+      → (steps : List ProtocolStep) → IsRun c steps → IsRefusedIn ((net_after c steps).nodes (stepper x)) (coming_to (net_after c steps) x) r
+  refusal r refused steps s = refused_there c (net_after c steps) x r s few (refused ((net_after c steps).nodes (stepper x)) stepping.0 (s.nodes (stepper x) stepping.0 b).node.manager)
+
+pub same_err : {X : Type 0} (r : Result X ClusterFault) (f : ClusterFault) → IsErr r × IsErrAnd r (λ (g : ClusterFault). g ≡ f) → r ≡ Err f
+same_err (Ok x) f h = absurd (cc h.0)
+same_err (Err g) f h = ap Err h.1
+
+-- who is there is not unknown
+pub not_unknown : (X : Type 0) (y : NodeState) (o : Option Input) (f : ClusterFault) → IsRefusedIn {X = X} y o (Err f) → f ≡ fault.Unknown → ⊥
+not_unknown X y o f h e = subst (λ (g : ClusterFault). IsRefusedIn {X = X} y o (Err g)) e h

@@ -1,5 +1,5 @@
 -- What is on its way: links of a list of parcels, and lists of rows.
-use Rattle.std.proofs.Common.{◌≡◌, ◌≢◌, ◌∙◌, ℕ, suc, ◌+◌, ◌<◌, ◌≤◌, Bool, true, false, Some, None, List, [], ◌∷◌, ◌++◌, length, map, take, drop, refl, sym, ap, ap₂, subst, arith, append_assoc, inl, inr}
+use Rattle.std.proofs.Common.{◌≡◌, ◌∙◌, ℕ, suc, ◌+◌, ◌<◌, ◌≤◌, Bool, true, false, Some, None, List, [], ◌∷◌, ◌++◌, length, map, take, drop, refl, sym, ap, ap₂, arith, inl, inr}
 use Rattle.std.specs.Prelude.{◌==◌, ◌&&◌, if◌then◌else◌, Option, slice_index_or}
 use Rattle.std.specs.Option.{option_to_list}
 use Rattle.std.specs.List.{remove}
@@ -10,7 +10,6 @@ use Rattle.kt_protocol.proofs.Updates.{is_same, is_other}
 use Rattle.kt_spacetime.specs.declared.named_rows.NamedEvent.{NamedEvent}
 use Rattle.kt_net.specs.Clocks.{Envelope, envelope, clocked_row}
 use Rattle.kt_net.specs.declared.parcels.NodeParcel.{NodeParcel}
-use Rattle.kt_net.specs.declared.rows.ClockedRow.{ClockedRow}
 use Rattle.kt_node.specs.declared.cluster.OnWay.{OnWay}
 use Rattle.kt_node.specs.Clusters.{link, IsFront}
 use Rattle.kt_node.specs.Effects.{rows_told}

@@ -1,6 +1,6 @@
 -- What comes to a node at a step, and what it makes of it.
-use Rattle.std.proofs.Common.{◌≡◌, ◌∙◌, ℕ, ◌+◌, Bool, true, false, Some, None, List, [], ◌∷◌, max, drop, refl, sym, ap, ap₂, subst, arith, inl, inr}
-use Rattle.std.specs.Prelude.{◌==◌, ◌&&◌, not, if◌then◌else◌, Option, Ok, Err, slice_index_or}
+use Rattle.std.proofs.Common.{◌≡◌, ◌∙◌, ℕ, ◌+◌, Bool, true, false, Some, List, ◌∷◌, max, refl, sym, ap, ap₂, subst, arith, inl, inr}
+use Rattle.std.specs.Prelude.{◌==◌, ◌&&◌, not, if◌then◌else◌, Option, Result, Ok, Err, IsErr, IsErrAnd, slice_index_or}
 use Rattle.std.specs.List.{remove}
 use Rattle.std.proofs.lemmas.Bool.{cases_eq}
 use Rattle.kt_protocol.specs.States.{ProtocolStep, Take}
@@ -14,7 +14,10 @@ use Rattle.kt_node.specs.declared.faults.ManagerFault.{ManagerFault}
 use Rattle.kt_node.specs.declared.node.NodeFault.{NodeFault}
 use Rattle.kt_node.specs.declared.node.NodeFault.TheVariants as fault
 use Rattle.kt_node.specs.declared.node.Output.{Output}
-use Rattle.kt_node.specs.Clusters.{link, IsFront, IsTurn}
+use Rattle.kt_node.specs.declared.cluster.ClusterFault.{ClusterFault}
+use Rattle.kt_node.specs.declared.cluster.ClusterFault.TheVariants as cluster
+use Rattle.kt_node.specs.Clusters.{link, fault_coming, IsFront, IsRefusedIn, IsTurn}
+use Rattle.kt_node.specs.Faults.{fault_at}
 use Rattle.kt_node.specs.Links.{NodeLinks, IsStep, IsNodeRefusedAs, IsParcelRefusedAs}
 use Rattle.kt_node.proofs.OnWay.{both_same, nobody, front_comes, front_left}
 
@@ -22,9 +25,9 @@ use Rattle.kt_node.proofs.OnWay.{both_same, nobody, front_comes, front_left}
 same_left : (xs : List OnWay) (q p u v : ℕ) → link xs u v ≡ (if u == q && v == p then link xs q p else link xs u v)
 same_left xs q p u v = elim (cases_eq u q) [
   | inl s ↦ elim (cases_eq v p) [
-      | inl t ↦ ap₂ (link xs) s t ∙ ap (λ (b : Bool). if b then link xs q p else link xs u v) (sym (ap₂ (λ (a b : ℕ). a == q && b == p) s t ∙ both_same q p))
-      | inr t ↦ ap (λ (b : Bool). if b then link xs q p else link xs u v) (sym (ap (λ (b : Bool). (u == q) && b) (is_other v p t) ∙ nobody (u == q)))
-    ]
+    | inl t ↦ ap₂ (link xs) s t ∙ ap (λ (b : Bool). if b then link xs q p else link xs u v) (sym (ap₂ (λ (a b : ℕ). a == q && b == p) s t ∙ both_same q p))
+    | inr t ↦ ap (λ (b : Bool). if b then link xs q p else link xs u v) (sym (ap (λ (b : Bool). (u == q) && b) (is_other v p t) ∙ nobody (u == q)))
+  ]
   | inr s ↦ ap (λ (b : Bool). if b then link xs q p else link xs u v) (sym (ap (λ (b : Bool). b && (v == p)) (is_other u q s)))
 ]
 
@@ -70,3 +73,11 @@ pub refused_front : (o : Option ManagerFault) (f : NodeFault) → IsParcelRefuse
 refused_front o (fault.Gap n) h g = g n refl
 refused_front o fault.ClockSpent h g = tt
 refused_front o (fault.Manager f) h g = h
+
+-- so a step of a cluster is refused that takes the front of a link
+pub refused_taken : {X : Type 0} (y : NodeState) (o : Option Input) (came : Input) (f : NodeFault) (r : Result X ClusterFault) → o ≡ Some came → IsErr r × IsErrAnd r (λ (g : ClusterFault). g ≡ cluster.Node f)
+    → IsParcelRefusedAs (fault_at y came) (Err f) → ((n : ℕ) → f ≡ fault.Gap n → ⊥) → IsRefusedIn y o r
+refused_taken y o came f (Ok out) e s p g = absurd (cc s.0)
+refused_taken {X = X} y o came f (Err k) e s p g =
+    subst (λ (h : ClusterFault). IsRefusedIn {X = X} y o (Err h)) (sym s.1)
+    (subst (λ (i : Option Input). IsNodeRefusedAs (fault_coming y i) (Err f)) (sym e) (refused_front (fault_at y came) f p g))

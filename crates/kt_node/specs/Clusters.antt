@@ -1,5 +1,5 @@
 -- Nodes with links in one program, and which net with clocks they are.
-use Rattle.std.specs.Prelude.{◌≡◌, ◌<◌, ◌≤◌, ◌+◌, ◌==◌, ◌&&◌, not, if◌then◌else◌, ℕ, Option, Some, None, Result, Ok, Err, List, [], ◌∷◌, length, map, take, slice_index_or}
+use Rattle.std.specs.Prelude.{◌≡◌, ◌<◌, ◌≤◌, ◌==◌, ◌&&◌, not, if◌then◌else◌, ℕ, Option, Some, None, Result, Ok, Err, List, [], ◌∷◌, length, map, take, slice_index_or}
 use Rattle.kt_meaning.specs.Past.{is_rollback_kind}
 use Rattle.kt_meaning.specs.Names.{numbered}
 use Rattle.kt_meaning.specs.Promised.{IsPromised, IsCertified}

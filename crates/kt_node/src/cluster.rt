@@ -13,14 +13,13 @@ ghost use Rattle.kt_system.specs.ShownActs.{acts_shown};
 ghost use Rattle.kt_node.specs.Clusters.{step_of, net_after, IsRun, AreFresh, ArePromised, coming_to, IsRefusedIn};
 ghost use Rattle.kt_node.specs.declared.cluster.ClusterFault.TheVariants as fault;
 
-use crate::node::{Node, NodeFault};
+use crate::node::{Node, NodeFault, Output};
 use kt_base::{Kind, Label, Memory, ProcNo};
 use kt_net::{ClockedRow, NodeParcel};
-use kt_plan::Act;
 use std::alloc::Global;
 use std::marker::Model;
 use thiserror::Error;
-use turns::{make_room, put, tell, turn_among};
+use turns::{carry_out, make_room, turn_among};
 
 mod turns;
 
@@ -184,12 +183,12 @@ impl Cluster {
         Ok(rows.filter(|r| r.row.p.get() == p.get()).collect(alloc)?)
     }
 
-    /// Makes a step, and says what its process is to do to its object, in order.
-    pub fn step(&mut self, alloc: Global, next: &ClusterStep) -> Result<[Act; 2], ClusterFault>
+    /// Makes a step, and says what it puts out: also what its process is to do to its object, in order.
+    pub fn step(&mut self, alloc: Global, next: &ClusterStep) -> Result<Output, ClusterFault>
         ensures done { (steps : List ProtocolStep) → IsRun self.old steps →
-            IfOk result (λ acts. IsRun self.new (steps ++ step_of next.now ∷ [])) }
+            IfOk result (λ out. IsRun self.new (steps ++ step_of next.now ∷ [])) }
         ensures acts { (steps : List ProtocolStep) → IsRun self.old steps →
-            IfOk result (λ acts. acts_shown acts
+            IfOk result (λ out. acts_shown out.effects.acts
             ≡ clocked_acts (net_after self.old steps) (step_of next.now)) }
         ensures refused { (steps : List ProtocolStep) → IsRun self.old steps →
             let w = net_after self.old steps in
@@ -209,9 +208,8 @@ impl Cluster {
         }
         make_room(&mut self.on_way, &mut self.rows)?;
         let output = turn_among(alloc, &mut self.nodes, &mut self.on_way, next)?;
-        tell(&mut self.rows, at, output.clock, &output.effects.rows);
-        put(&mut self.on_way, at, &output);
-        Ok(output.effects.acts)
+        carry_out(&mut self.on_way, &mut self.rows, at, &output);
+        Ok(output)
     }
 }
 

@@ -29,8 +29,28 @@ pub(super) fn make_room(on_way: &mut Vec<OnWay>, rows: &mut Vec<ClockedRow>) -> 
     Ok(())
 }
 
+/// Puts the parcels of a process's step and tells its rows, in room made before.
+pub(super) fn carry_out(
+    on_way: &mut Vec<OnWay>,
+    rows: &mut Vec<ClockedRow>,
+    p: ProcNo,
+    output: &Output,
+)
+    requires on_way { vec_len on_way.old + 64 ≤ vec_capacity on_way.old }
+    requires rows { vec_len rows.old + 4 ≤ vec_capacity rows.old }
+    ensures links { (u v : ℕ) → v < 64 → link on_way.new.items u v ≡ link on_way.old.items u v
+        ++ (if u == p then map (envelope output.now.clock) (put_to output.now.effects.parcels v)
+        else []) }
+    ensures told { rows.new.items ≡ rows.old.items
+        ++ map (clocked_row p output.now.clock) (rows_told output.now.effects.rows) }
+{
+    put(on_way, p, output);
+    let effects = &output.effects;
+    tell(rows, p, output.clock, &effects.rows);
+}
+
 /// Tells the rows of a process's step, in room made before.
-pub(super) fn tell(rows: &mut Vec<ClockedRow>, p: ProcNo, clock: u64, told: &[Option<NamedEvent>])
+fn tell(rows: &mut Vec<ClockedRow>, p: ProcNo, clock: u64, told: &[Option<NamedEvent>])
     requires { vec_len rows.old + length told.now ≤ vec_capacity rows.old }
     ensures { rows.new.items ≡ rows.old.items ++ map (clocked_row p clock) (rows_told told.now) }
 {
@@ -44,7 +64,7 @@ pub(super) fn tell(rows: &mut Vec<ClockedRow>, p: ProcNo, clock: u64, told: &[Op
 }
 
 /// Puts the parcels of a process's step, in room made before.
-pub(super) fn put(on_way: &mut Vec<OnWay>, p: ProcNo, output: &Output)
+fn put(on_way: &mut Vec<OnWay>, p: ProcNo, output: &Output)
     requires { vec_len on_way.old + 64 ≤ vec_capacity on_way.old }
     ensures { (u v : ℕ) → v < 64 → link on_way.new.items u v ≡ link on_way.old.items u v
         ++ (if u == p then map (envelope output.now.clock) (put_to output.now.effects.parcels v)

@@ -14,13 +14,13 @@ loop-row-preserved c =
     let front = map (clocked_row c.args.p c.args.clock) (rows_told (take i told)) in
     elim c.match-row.branch [
       | in-Some w ↦ record {
-          told = ap (λ v. v.items) w.rows-is ∙ (w.push_reserved.ensures.items ∙ (ap (λ (l : List ClockedRow). l ++ clocked_row c.args.p c.args.clock w.in-Some.event ∷ []) c.loop-row.invariant.told
-              ∙ (append_assoc before front (clocked_row c.args.p c.args.clock w.in-Some.event ∷ [])
-              ∙ ap (λ (l : List ClockedRow). before ++ l) (sym (told_one c.args.p c.args.clock told i c.row-item.result w.in-Some.event (search rules) c.row-item.is w.in-Some.is)))));
-          room = first_of (omega arith, search rules);
-        }
+        told = ap (λ v. v.items) w.rows-is ∙ (w.push_reserved.ensures.items ∙ (ap (λ (l : List ClockedRow). l ++ clocked_row c.args.p c.args.clock w.in-Some.event ∷ []) c.loop-row.invariant.told
+            ∙ (append_assoc before front (clocked_row c.args.p c.args.clock w.in-Some.event ∷ [])
+            ∙ ap (λ (l : List ClockedRow). before ++ l) (sym (told_one c.args.p c.args.clock told i c.row-item.result w.in-Some.event (search rules) c.row-item.is w.in-Some.is)))));
+        room = first_of (omega arith, search rules);
+      }
       | in_default w ↦ record {
-          told = ap (λ v. v.items) w.rows-is ∙ (c.loop-row.invariant.told ∙ ap (λ (l : List ClockedRow). before ++ l) (sym (told_none c.args.p c.args.clock told i c.row-item.result (search rules) c.row-item.is w.in_default.is)));
-          room = first_of (omega arith, search rules);
-        }
+        told = ap (λ v. v.items) w.rows-is ∙ (c.loop-row.invariant.told ∙ ap (λ (l : List ClockedRow). before ++ l) (sym (told_none c.args.p c.args.clock told i c.row-item.result (search rules) c.row-item.is w.in_default.is)));
+        room = first_of (omega arith, search rules);
+      }
     ]

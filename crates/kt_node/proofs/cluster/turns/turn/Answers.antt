@@ -1,4 +1,4 @@
-use Rattle.std.proofs.Common.{◌≡◌, ◌∙◌, ℕ, ℤ, Some, refl, sym, ap, subst, rules}
+use Rattle.std.proofs.Common.{◌≡◌, ℤ, Some, refl, sym, ap, subst, rules}
 use Rattle.std.specs.Int.{w64}
 use Rattle.std.proofs.lemmas.Int.{to_z-of_z}
 use Rattle.kt_tables.specs.Calls.{Speaks}
@@ -8,7 +8,7 @@ use Rattle.std.specs.Prelude.{if◌then◌else◌, None}
 use Rattle.kt_meaning.specs.Past.{is_rollback_kind}
 use Rattle.kt_protocol.specs.States.{ProtocolStep}
 use Rattle.kt_protocol.specs.States as protocol
-use Rattle.kt_net.specs.Nodes.{Input, Send, Begin}
+use Rattle.kt_net.specs.Nodes.{Send, Begin}
 use Rattle.kt_machine.specs.Acts.{stepper}
 use Rattle.kt_net.specs.Clocks.{source_of}
 use Rattle.kt_node.specs.Clusters.{step_of, link, IsSpeakable, IsTurn}
