@@ -6,7 +6,7 @@ use crate::merging::merge;
 use crate::node_steps::{Step, What, step_of};
 use kt_base::{Label, ProcNo};
 use kt_merge::{PartRow, write_part};
-use kt_node::{Cluster, ClusterStep};
+use kt_node::{Cluster, ClusterStep, Effects};
 use kt_plan::Act;
 use std::alloc::Global;
 use std::io;
@@ -27,14 +27,16 @@ fn cluster_step(step: &Step) -> Option<ClusterStep> {
     }
 }
 
-// How many of these are to be done.
-fn count_acts(acts: &[Act]) -> usize {
-    acts.iter()
+// How many acts a step asks of the object.
+fn count_acts(effects: &Effects) -> usize {
+    effects
+        .acts
+        .iter()
         .filter(|act| !matches!(act, Act::Nothing))
         .count()
 }
 
-// Makes a step, and shows why it is refused, or that its object has something to do.
+// Makes a step, and shows why it is refused, or how many acts it asks of the object, if any.
 fn follow<R: Print + AllocGlobal>(rt: &R, cluster: &mut Cluster, line: &str) -> io::Result<()> {
     let Some(step) = step_of(line) else {
         return refused();
@@ -43,8 +45,10 @@ fn follow<R: Print + AllocGlobal>(rt: &R, cluster: &mut Cluster, line: &str) -> 
         return refused();
     };
     match cluster.step(rt.alloc(), &next) {
-        Ok(acts) if count_acts(&acts) == 0 => Ok(()),
-        Ok(acts) => println!(rt; "  {line}: {} acts", count_acts(&acts)),
+        Ok(output) => match count_acts(&output.effects) {
+            0 => Ok(()),
+            count => println!(rt; "  {line}: {count} acts"),
+        },
         Err(fault) => println!(rt; "  {line}: {fault}"),
     }
 }
