@@ -17,8 +17,8 @@ use Rattle.kt_picture.specs.declared.breach.Breach.{Breach}
 use Rattle.kt_picture.specs.declared.diagram.Diagram.{Diagram}
 use Rattle.kt_picture.specs.declared.diagram.Sheet.{Sheet}
 use Rattle.kt_picture.specs.DiagramOf.{DiagramOf, HasRowsFor, SheetOf}
-use Rattle.kt_draw.specs.declared.followed.Followed.{Followed}
-use Rattle.kt_draw.specs.declared.reading.Reading.{Reading}
+use Rattle.kt_draw.specs.declared.drawing.Followed.{Followed}
+use Rattle.kt_draw.specs.declared.drawing.Reading.{Reading}
 use Rattle.kt_draw.specs.declared.span.Span.{Span}
 use Rattle.kt_picture.specs.Picture.{picture_of}
 use Rattle.kt_draw.specs.declared.fault.PictureFault.{PictureFault}

@@ -5,7 +5,7 @@ use Rattle.kt_log_text.specs.Reading.{RowsRead, GivesRow, MeetsEnd, rows_unread}
 use Rattle.kt_log_text.specs.Progress.{GathersRows}
 use Rattle.kt_log_text.proofs.GatherFacts.{gathers_more, gathers_none, gathered_all, most_rows_le}
 use Rattle.kt_checker.specs.Streamed.{SaysRows}
-use Rattle.kt_draw.specs.declared.reading.Reading.{Reading}
+use Rattle.kt_draw.specs.declared.drawing.Reading.{Reading}
 use Rattle.kt_draw.specs.declared.span.Span.{Span}
 use Rattle.kt_draw.specs.Followed.{ReadingOf}
 

@@ -1,20 +1,79 @@
-//! Rows of a stored log drawn, with what certificates tell of it.
+//! Rows of a stored log drawn while they are read, by a walk over the log beside the window of a picture.
 
-ghost use Rattle.std.specs.Prelude.{◌≡◌, IfOk, IfErr};
+ghost use Rattle.std.specs.Prelude.{◌≡◌, ◌≤◌, ◌<◌, ◌+◌, ◌-◌, ◌^◌, ◌++◌, ◌∷◌, [], ℕ, List, Option, Some, Err, IfOk, IfErr, OnOk, length, take};
+ghost use Rattle.kt_spacetime.specs.declared.event.Event.{Event};
+ghost use Rattle.kt_spacetime.specs.declared.rules.Rule.{Rule};
+ghost use Rattle.kt_rules.specs.declared.legality.LegalFault.TheVariants as legality;
 ghost use Rattle.kt_meaning.specs.Answers.{IsCheckerAnswer};
-ghost use Rattle.kt_draw.specs.Drawn.{answer_sentence, IsCertifiedPicture, IsOrphanDrawn, IsUndrawnLog, orphan_told};
-ghost use Rattle.kt_draw.specs.Followed.{ReadingOf};
+ghost use Rattle.kt_meaning.specs.Legal.{first_broken};
+ghost use Rattle.kt_log_text.specs.Reading.{IsUnread, rows_unread};
+ghost use Rattle.kt_picture.specs.declared.diagram.Sheet.{Sheet};
+ghost use Rattle.kt_picture.specs.Breach.{caption_of};
+ghost use Rattle.kt_picture.specs.DiagramOf.{SheetOf};
+ghost use Rattle.kt_draw.specs.declared.span.Span.{Span as Spans};
+ghost use Rattle.kt_draw.specs.Drawn.{answer_sentence, first_row, IsCertifiedPicture, IsNoPictureOf, IsOrphanDrawn, IsPictureOf, IsPictureTo, IsUndrawnLog, orphan_told};
+ghost use Rattle.kt_draw.specs.Followed.{AreRowsRead, FollowedOf, ReadingOf, last_wanted};
 
 use crate::fault::DrawFault;
-use crate::reading::Reading;
-use crate::span::Span;
+use crate::span::{Span, first_row, last_drawn, last_wanted};
 use kt_base::{Memory, MsgNo};
 use kt_checker::check;
 use kt_explain::{Explanation, explain};
-use kt_picture::Evidence;
+use kt_log_text::RowReader;
+use kt_picture::{Breach, Diagram, Evidence, Sheet, caption};
 use kt_plan::Names;
-use kt_spacetime::{Certificate, SpaceTime, Verdict, Why};
+use kt_rules::LegalFault;
+use kt_spacetime::{Certificate, Event, SpaceTime, Verdict, Why};
+use kt_walk::Walk;
 use std::alloc::Global;
+use std::io::Read;
+
+/// The picture of rows of the log that a reader tells, as one SVG document, with these names of its processes, or else
+/// their numbers.
+///
+/// A log is drawn up to the first row that breaks a rule; that row is marked, and what comes after it is not read as rows.
+/// The line below says so, or that the log is legal.
+///
+/// Fails at the first fault of the log's text, which is read to its end; then where there are no such rows, or more than
+/// 4,096 of them. Where memory is wanting it fails at any time. It keeps no rows of the log, but for those of the picture.
+pub fn draw_stream<L: Read + Drop>(
+    alloc: Global,
+    reader: L,
+    names: &Names,
+    span: Span,
+) -> Result<Vec<u8>, DrawFault>
+    ensures picture { IfOk result (λ text. IsPictureOf names.now span (L.remaining reader) text.items) }
+    ensures fault { IfErr result (IsNoPictureOf span (L.remaining reader)) }
+{
+    let mut rows = RowReader::new(alloc, reader)?;
+    draw_rows(alloc, &mut rows, names, span)
+}
+
+/// The picture of rows of the log that a reader of its rows tells, of which it gave none, as `draw_stream` makes it.
+///
+/// The record at which a fault of the text was met stays with the reader.
+pub fn draw_rows<L: Read + Drop>(
+    alloc: Global,
+    rows: &mut RowReader<L>,
+    names: &Names,
+    span: Span,
+) -> Result<Vec<u8>, DrawFault>
+    requires unread { IsUnread rows.old }
+    ensures picture { (source : Option (List ℕ)) → rows.old ≡ rows_unread source
+        → IfOk result (λ text. IsPictureOf names.now span source text.items) }
+    ensures fault { (source : Option (List ℕ)) → rows.old ≡ rows_unread source → IfErr result (IsNoPictureOf span source) }
+{
+    let mut reading = Reading::new(alloc, span)?;
+    while let Some(row) = rows.next()? {
+        reading.feed(&row, span)?;
+    }
+    let evidence = Evidence {
+        certificates: &[],
+        orphan: None,
+    };
+    let line = reading.caption(alloc)?;
+    reading.picture(alloc, names, span, &[], &evidence, line.as_slice())
+}
 
 /// The picture of rows of a log as `draw_stream` has it, with what certificates tell of it: the messages of their chains in
 /// the colours of the instances, and why each member took part. The line below says the checker's answer; where that is an
@@ -87,4 +146,174 @@ fn read_log(alloc: Global, log: &SpaceTime, span: Span) -> Result<Reading, Memor
         reading.feed(row, span)?;
     }
     Ok(reading)
+}
+
+// A log that is drawn while its rows are read, of which none is kept: its legal rows so far, the row that breaks a rule, and
+// how many rows there are.
+#[derive(Drop)]
+struct Reading {
+    followed: Followed,
+    breach: Option<Breach>,
+    count: usize,
+}
+
+impl Reading {
+    // A log of which no row is read.
+    fn new(alloc: Global, span: Span) -> Result<Reading, Memory>
+        ensures { IfOk result (λ r. ReadingOf r span []) }
+    {
+        let followed = Followed::new(alloc, span)?;
+        Ok(Reading {
+            followed,
+            breach: None,
+            count: 0,
+        })
+    }
+
+    // One more row. After a row that breaks a rule rows are counted alone.
+    fn feed(&mut self, row: &Event, span: Span) -> Result<(), Memory>
+        requires few { (rows : List Event) × ReadingOf self.old span rows × (length rows < 2 ^ 24) }
+        ensures { OnOk result ((rows : List Event) → ReadingOf self.old span rows → ReadingOf self.new span (rows ++ row.now ∷ [])) }
+    {
+        self.count += 1;
+        if self.breach.is_some() {
+            return Ok(());
+        }
+        let Err(fault) = self.followed.add(row) else {
+            return Ok(());
+        };
+        let LegalFault::Broken(_number, rule) = fault else {
+            return Err(Memory);
+        };
+        self.breach = Some(Breach { event: *row, rule });
+        Ok(())
+    }
+
+    // What is said below a picture of all rows that were read: that they are legal, or which one breaks which rule.
+    fn caption(&self, alloc: Global) -> Result<Vec<u8>, Memory>
+        requires few { (span : Spans) × (read : List Event) × ReadingOf self.now span read × (length read ≤ 2 ^ 24) }
+        ensures { IfOk result (λ line. (span : Spans) (read : List Event) (h : ReadingOf self.now span read)
+            → line.items ≡ caption_of (length h.kept + 1) self.now.breach) }
+    {
+        caption(alloc, self.followed.rows() as u32 + 1, self.breach)
+    }
+
+    // The picture of the rows that are asked for, of all rows that were read, with what certificates tell of them, and this
+    // line below. The rows are asked for by the chains of certificates alone.
+    fn picture(
+        &mut self,
+        alloc: Global,
+        names: &Names,
+        span: Span,
+        rows: &[Event],
+        evidence: &Evidence<'_>,
+        line: &[u8],
+    ) -> Result<Vec<u8>, DrawFault>
+        requires few { (read : List Event) × ReadingOf self.old span read × (length read ≤ 2 ^ 24) }
+        ensures picture { (read : List Event) (h : ReadingOf self.old span read)
+            → AreRowsRead rows.now read evidence.now.certificates.now
+            → IfOk result (λ text. IsPictureTo names.now span read (length h.kept) self.old.breach
+            evidence.now.certificates.now evidence.now.orphan line.now text.items) }
+        ensures fault { (read : List Event) → ReadingOf self.old span read → IfErr result (IsUndrawnLog span read) }
+    {
+        let kept = self.followed.rows();
+        let seen = kept + usize::from(self.breach.is_some());
+        let last = last_drawn(self.count, seen, span)?;
+        let breach = if kept < last { self.breach } else { None };
+        let sheet = self.followed.sheet()?;
+        Ok(sheet.picture(alloc, rows, breach, evidence, names, line)?)
+    }
+}
+
+// A walk over a log, and what is drawn of its window: a diagram while the window goes on, and its sheet once a row comes
+// after it.
+#[derive(Drop)]
+struct Followed {
+    alloc: Global,
+    walk: Walk,
+    diagram: Diagram,
+    sheet: Option<Sheet>,
+    // How many rows come before the window.
+    before: usize,
+    // The number of the last row that it may have.
+    last: usize,
+}
+
+impl Followed {
+    // A walk that was fed no rows, with the window that is asked for.
+    fn new(alloc: Global, span: Span) -> Result<Followed, Memory>
+        ensures of { IfOk result (λ f. FollowedOf f []) }
+        ensures before { IfOk result (λ f. f.before ≡ first_row span.from - 1) }
+        ensures last { IfOk result (λ f. f.last ≡ last_wanted (first_row span.from - 1) span.to) }
+    {
+        let before = first_row(span.from).saturating_sub(1);
+        Ok(Followed {
+            alloc,
+            walk: Walk::new(alloc)?,
+            diagram: Diagram::new(alloc),
+            sheet: None,
+            before,
+            last: last_wanted(before, span.to),
+        })
+    }
+
+    // How many rows were fed.
+    fn rows(&self) -> usize
+        ensures { result ≡ self.now.walk.rows }
+    {
+        self.walk.rows()
+    }
+
+    // One more row, where it breaks no rule of a legal log.
+    fn add(&mut self, row: &Event) -> Result<(), LegalFault>
+        requires few { (rows : List Event) × FollowedOf self.old rows × (length rows < 2 ^ 24) }
+        ensures added { OnOk result ((rows : List Event) → FollowedOf self.old rows → FollowedOf self.new (rows ++ row.now ∷ [])) }
+        ensures still { (number : ℕ) (rule : Rule) → result ≡ Err (legality.Broken number rule)
+            → (rows : List Event) → FollowedOf self.old rows → FollowedOf self.new rows }
+        ensures broken { (number : ℕ) (rule : Rule) → result ≡ Err (legality.Broken number rule)
+            → (rows : List Event) → FollowedOf self.old rows → first_broken (rows ++ row.now ∷ []) ≡ Some (number, rule) }
+        ensures before { self.new.before ≡ self.old.before }
+        ensures last { self.new.last ≡ self.old.last }
+    {
+        let rows = self.walk.rows();
+        if rows < self.before {
+            return self.diagram.pass(&mut self.walk, row);
+        }
+        if rows < self.last {
+            return self.diagram.add(&mut self.walk, row);
+        }
+        self.close()?;
+        self.walk.feed(row)
+    }
+
+    // Keeps the sheet of the window, after which the next row comes.
+    fn close(&mut self) -> Result<(), Memory>
+        requires few { (rows : List Event) × FollowedOf self.old rows × (length rows ≤ 2 ^ 24) }
+        ensures closed { OnOk result ((rows : List Event) → FollowedOf self.old rows → self.old.last ≤ length rows
+            → FollowedOf self.new rows) }
+        ensures sheet { OnOk result ((sheet : Sheet) × (self.new.sheet ≡ Some sheet)) }
+        ensures walk { self.new.walk ≡ self.old.walk }
+        ensures before { self.new.before ≡ self.old.before }
+        ensures last { self.new.last ≡ self.old.last }
+    {
+        let sheet = self.sheet()?;
+        self.sheet = Some(sheet);
+        Ok(())
+    }
+
+    // The window, with what became of its rows by its end; it is given away.
+    fn sheet(&mut self) -> Result<Sheet, Memory>
+        requires few { (rows : List Event) × FollowedOf self.old rows × (length rows ≤ 2 ^ 24) }
+        ensures exact { IfOk result (λ sheet. (rows : List Event) → FollowedOf self.old rows → self.old.before ≤ length rows
+            → SheetOf sheet (take self.old.last rows) self.old.before) }
+        ensures walk { self.new.walk ≡ self.old.walk }
+        ensures diagram { self.new.diagram ≡ self.old.diagram }
+        ensures before { self.new.before ≡ self.old.before }
+        ensures last { self.new.last ≡ self.old.last }
+    {
+        match self.sheet.take() {
+            Some(sheet) => Ok(sheet),
+            None => self.diagram.sheet(self.alloc, &self.walk),
+        }
+    }
 }

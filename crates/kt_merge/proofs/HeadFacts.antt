@@ -4,7 +4,7 @@ use Rattle.std.specs.List.{slice_get}
 use Rattle.std.proofs.lemmas.Bool.{cases_lt, cases_eq}
 use Rattle.std.proofs.lemmas.Option.{slice_get_within}
 use Rattle.kt_merge.specs.declared.part_rows.PartRow.{PartRow}
-use Rattle.kt_merge.specs.Heads.{IsLeastHead, HasNoHead, IsBestTo}
+use Rattle.kt_merge.specs.Heads.{IsLeastHead, HasNoHead, IsBestTo, IsBestClock}
 
 abbrev Heads : Type 0
 Heads = List (Option PartRow)
@@ -87,3 +87,17 @@ best_found heads n (Some (i, row)) l b = record { is = b.1; least = λ j other a
 pub best_none : (heads : Heads) (n : ℕ) (best : Option (ℕ × PartRow)) → length heads ≤ n → IsBestTo heads n best → IfNone best (HasNoHead heads)
 best_none heads n None l b = λ j other at. b j other (omega (arith, l, slice_get_within heads j (Some other) at)) at
 best_none heads n (Some r) l b = tt
+
+-- the same of clocks
+pub clock_kept : (heads : Heads) (n : ℕ) (best : Option (ℕ × ℕ)) → IsBestClock heads n best → slice_get heads n ≡ Some None → IsBestClock heads (n + 1) best
+clock_kept heads n None b e = best_kept heads n None b e
+clock_kept heads n (Some (i, clock)) b e = (b.0, b.1, best_kept heads n (Some (i, b.0)) b.2 e)
+
+pub clock_first : (heads : Heads) (n : ℕ) (row : PartRow) (clock : ℕ) → IsBestClock heads n None → slice_get heads n ≡ Some (Some row) → row.clock ≡ clock → IsBestClock heads (n + 1) (Some (n, clock))
+clock_first heads n row clock b e c = (row, c, best_first heads n row b e)
+
+pub clock_stays : (heads : Heads) (n i first : ℕ) (row : PartRow) (clock : ℕ) → IsBestClock heads n (Some (i, first)) → slice_get heads n ≡ Some (Some row) → row.clock ≡ clock → first ≤ clock → IsBestClock heads (n + 1) (Some (i, first))
+clock_stays heads n i first row clock b e c l = (b.0, b.1, best_stays heads n i b.0 row b.2 e (omega (arith, b.1, c, l)))
+
+pub clock_new : (heads : Heads) (n i first : ℕ) (row : PartRow) (clock : ℕ) → IsBestClock heads n (Some (i, first)) → slice_get heads n ≡ Some (Some row) → row.clock ≡ clock → clock < first → IsBestClock heads (n + 1) (Some (n, clock))
+clock_new heads n i first row clock b e c l = (row, c, best_new heads n i b.0 row b.2 e (omega (arith, b.1, c, l)))

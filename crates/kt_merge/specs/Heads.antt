@@ -22,6 +22,11 @@ IsBestTo heads n None = (j : ℕ) (other : PartRow) → j < n → slice_get head
 IsBestTo heads n (Some (i, row)) = (i < n) × (slice_get heads i ≡ Some (Some row))
     × ((j : ℕ) (other : PartRow) → j < n → slice_get heads j ≡ Some (Some other) → (row.clock < other.clock) ⊎ ((row.clock ≡ other.clock) × (i ≤ j)))
 
+-- the same by its clock
+abbrev pub IsBestClock : List (Option PartRow) → ℕ → Option (ℕ × ℕ) → Type 0
+IsBestClock heads n None = IsBestTo heads n None
+IsBestClock heads n (Some (i, clock)) = (row : PartRow) × (row.clock ≡ clock) × IsBestTo heads n (Some (i, row))
+
 -- a call of each reader gave these next rows
 pub record GiveHeads (old new : List PartRead) (heads : List (Option PartRow)) : Type 0 where
   pub many : (length new ≡ length old) × (length heads ≡ length old)

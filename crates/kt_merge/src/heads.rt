@@ -2,7 +2,7 @@
 
 ghost use Rattle.std.specs.Prelude.{◌≡◌, ◌+◌, List, Option, Some, slice_get, IfSome, IfNone};
 ghost use Rattle.kt_merge.specs.declared.part_rows.PartRow.{PartRow as part_rows};
-ghost use Rattle.kt_merge.specs.Heads.{IsLeastHead, HasNoHead, IsBestTo};
+ghost use Rattle.kt_merge.specs.Heads.{IsLeastHead, HasNoHead, IsBestClock};
 
 use crate::part_rows::PartRow;
 
@@ -12,32 +12,25 @@ pub(crate) fn least(heads: &[Option<PartRow>]) -> Option<(usize, PartRow)>
     ensures found { IfSome result (λ r. IsLeastHead heads.now r.0 r.1) }
     ensures none { IfNone result (HasNoHead heads.now) }
 {
-    let mut best = None;
+    let mut best: Option<(usize, u64)> = None;
     for (part, head) in heads.iter().enumerate() {
-        best = earlier(best, part, *head);
+        if let Some(row) = head {
+            best = earlier(best, part, row.clock);
+        }
     }
-    best
+    let (part, _) = best?;
+    let row = heads[part]?;
+    Some((part, row))
 }
 
-// Of the first of some rows and the next part's row the one that comes first.
+// Of the first of some clocks and the next part's clock the one that comes first.
 #[inline(always)]
-fn earlier(
-    best: Option<(usize, PartRow)>,
-    part: usize,
-    head: Option<PartRow>,
-) -> Option<(usize, PartRow)>
-    ensures { (heads : List (Option part_rows)) → IsBestTo heads part best → slice_get heads part ≡ Some head
-        → IsBestTo heads (part + 1) result }
+fn earlier(best: Option<(usize, u64)>, part: usize, clock: u64) -> Option<(usize, u64)>
+    ensures { (heads : List (Option part_rows)) (row : part_rows) → IsBestClock heads part best →
+        slice_get heads part ≡ Some (Some row) → row.clock ≡ clock → IsBestClock heads (part + 1) result }
 {
-    let Some(row) = head else {
-        return best;
-    };
-    let Some((index, first)) = best else {
-        return Some((part, row));
-    };
-    if first.clock <= row.clock {
-        Some((index, first))
-    } else {
-        Some((part, row))
+    match best {
+        Some((_, first)) if first <= clock => best,
+        _ => Some((part, clock)),
     }
 }

@@ -1,6 +1,6 @@
 use Rattle.std.proofs.Common.{arith, refl}
 use Rattle.kt_draw.proofs.Following.{followed_closed}
-use Rattle.kt_draw.proofs.followed.Followed.close.Goals as goal
+use Rattle.kt_draw.proofs.drawing.Followed.close.Goals as goal
 
 pub returns-clause-closed : goal.returns-clause-closed
 returns-clause-closed c = λ rows h late.

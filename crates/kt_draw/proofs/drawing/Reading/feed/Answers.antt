@@ -1,7 +1,7 @@
 use Rattle.std.proofs.Common.{arith, refl, sym}
 use Rattle.kt_checker.proofs.FirstPlaces.{none_of, some_of}
 use Rattle.kt_draw.proofs.Following.{reading_added, reading_broken, reading_on}
-use Rattle.kt_draw.proofs.reading.Reading.feed.Goals as goal
+use Rattle.kt_draw.proofs.drawing.Reading.feed.Goals as goal
 
 pub add-requires : goal.add-requires
 add-requires c =

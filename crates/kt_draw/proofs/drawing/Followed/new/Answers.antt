@@ -1,5 +1,5 @@
 use Rattle.kt_draw.proofs.Following.{window_none}
-use Rattle.kt_draw.proofs.followed.Followed.new.Goals as goal
+use Rattle.kt_draw.proofs.drawing.Followed.new.Goals as goal
 
 pub returns-clause-of : goal.returns-clause-of
 returns-clause-of c = record {

@@ -2,7 +2,7 @@ use Rattle.std.proofs.Common.{◌≤◌, arith, length, refl}
 use Rattle.std.proofs.lemmas.Result.{on_ok_weaker}
 use Rattle.kt_picture.proofs.DiagramFacts.{columns_few}
 use Rattle.kt_draw.proofs.Following.{followed_added, followed_left, followed_passed, open_diagram}
-use Rattle.kt_draw.proofs.followed.Followed.add.Goals as goal
+use Rattle.kt_draw.proofs.drawing.Followed.add.Goals as goal
 
 pub returns-then-rows-self-clause-added : goal.returns-then-rows-self-clause-added
 returns-then-rows-self-clause-added c =

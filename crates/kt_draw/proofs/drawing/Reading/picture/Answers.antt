@@ -5,8 +5,8 @@ use Rattle.kt_picture.specs.Picture.{picture_of}
 use Rattle.kt_picture.proofs.DiagramFacts.{byte_is}
 use Rattle.kt_draw.specs.Drawn.{IsUndrawnLog, breach_drawn}
 use Rattle.kt_draw.proofs.Following.{begun, drawn_else, drawn_then, reading_pictured, reading_undrawn, rows_for}
-use Rattle.kt_draw.proofs.reading.Reading.picture.Goals.{then-kept-last, else-kept-last}
-use Rattle.kt_draw.proofs.reading.Reading.picture.Goals as goal
+use Rattle.kt_draw.proofs.drawing.Reading.picture.Goals.{then-kept-last, else-kept-last}
+use Rattle.kt_draw.proofs.drawing.Reading.picture.Goals as goal
 
 pub sheet-requires : goal.sheet-requires
 sheet-requires c =

@@ -1,4 +1,4 @@
-use Rattle.kt_draw.proofs.streaming.draw_stream.Goals as goal
+use Rattle.kt_draw.proofs.drawing.draw_stream.Goals as goal
 
 pub returns-clause-picture : goal.returns-clause-picture
 returns-clause-picture g c = c.draw_rows.ensures.picture (g.L.Read.remaining c.args.reader) c.in_ok-rows.ensures

@@ -1,7 +1,7 @@
 use Rattle.std.proofs.Common.{◌≡◌, ◌-◌, ℕ, List, Option}
 use Rattle.kt_log_text.specs.Reading.{rows_unread}
 use Rattle.kt_draw.proofs.Streams.{HasDrawn}
-use Rattle.kt_draw.proofs.streaming.draw_rows.Given as goal
+use Rattle.kt_draw.proofs.drawing.draw_rows.Given as goal
 
 abbrev pub invariant-loop-reading : goal.invariant-loop-reading
 invariant-loop-reading g l = (source : Option (List ℕ)) → l.fn.rows ≡ rows_unread source → HasDrawn source l.rows l.reading l.span

@@ -4,7 +4,7 @@ use Rattle.kt_draw.proofs.BytesRead.{rows_undrawn, text_refused}
 use Rattle.std.proofs.Common.{rules, ◌≡◌, ◌∙◌, [], None, inr, length, refl}
 use Rattle.kt_draw.proofs.Fronts.{ok_weaker, told_drawn}
 use Rattle.kt_draw.proofs.Streams.{drawn_none, drawn_few, drawn_more, drawn_all}
-use Rattle.kt_draw.proofs.streaming.draw_rows.Goals as goal
+use Rattle.kt_draw.proofs.drawing.draw_rows.Goals as goal
 
 pub loop-reading-init : goal.loop-reading-init
 loop-reading-init g c = λ source e. drawn_none source c.args.rows.now c.in_ok-reading.reading c.args.span e c.in_ok-reading.ensures

@@ -3,7 +3,7 @@ use Rattle.kt_picture.specs.declared.diagram.Sheet.{Sheet}
 use Rattle.kt_draw.specs.Followed.{ShowsWindow}
 use Rattle.kt_draw.proofs.Following.{sheet_open}
 use Rattle.kt_draw.proofs.Fronts.{ok_weaker}
-use Rattle.kt_draw.proofs.followed.Followed.sheet.Goals as goal
+use Rattle.kt_draw.proofs.drawing.Followed.sheet.Goals as goal
 
 pub sheet-requires : goal.sheet-requires
 sheet-requires c =
