@@ -1,12 +1,15 @@
 //! Runs of clusters.
 
+ghost use Rattle.std.specs.Prelude.{◌≤◌};
+
 use crate::cases::{Case, PIECE_END, next_piece};
 use crate::faults::{refused, value_of};
 use crate::merging::merge;
-use crate::node_steps::{Step, What, step_of};
+use crate::node_steps::step_of;
 use kt_base::{Label, ProcNo};
 use kt_merge::{PartRow, write_part};
-use kt_node::{Cluster, ClusterStep, Effects};
+use kt_net::ClockedRow;
+use kt_node::{Cluster, Effects};
 use kt_plan::Act;
 use std::alloc::Global;
 use std::io;
@@ -14,18 +17,6 @@ use std::io::Write;
 
 // How many nodes there are.
 const COUNT: u8 = 3;
-
-// A step, as a cluster has it.
-fn cluster_step(step: &Step) -> Option<ClusterStep> {
-    let at = step.p;
-    match step.what {
-        What::Send(to, body) => Some(ClusterStep::Send { at, to, body }),
-        What::Begin(kind, able) => Some(ClusterStep::Begin { at, kind, able }),
-        What::Fail => Some(ClusterStep::Fail { at }),
-        What::Take(from, able) => Some(ClusterStep::Take { at, from, able }),
-        What::Again(_) | What::Forged(..) => None,
-    }
-}
 
 // How many acts a step asks of the object.
 fn count_acts(effects: &Effects) -> usize {
@@ -38,10 +29,7 @@ fn count_acts(effects: &Effects) -> usize {
 
 // Makes a step, and shows why it is refused, or how many acts it asks of the object, if any.
 fn follow<R: Print + AllocGlobal>(rt: &R, cluster: &mut Cluster, line: &str) -> io::Result<()> {
-    let Some(step) = step_of(line) else {
-        return refused();
-    };
-    let Some(next) = cluster_step(&step) else {
+    let Some(next) = step_of(line) else {
         return refused();
     };
     match cluster.step(rt.alloc(), &next) {
@@ -53,46 +41,51 @@ fn follow<R: Print + AllocGlobal>(rt: &R, cluster: &mut Cluster, line: &str) -> 
     }
 }
 
-// The text of a process's part, whose clocks are the places of its rows among all.
-fn text_by_place(alloc: Global, cluster: &Cluster, p: ProcNo) -> io::Result<Vec<u8>> {
+/// The text of a part.
+pub(crate) fn part_text(alloc: Global, part: &[ClockedRow]) -> io::Result<Vec<u8>> {
+    let mut rows = Vec::new(alloc);
+    for told in part {
+        let clock = told.clock;
+        let row = told.row;
+        rows.push(PartRow { clock, row })?;
+    }
+    let mut text = Vec::new(alloc);
+    value_of(write_part(alloc, rows.as_slice(), &mut text))?;
+    Ok(text)
+}
+
+// A process's part, whose clocks are the places of its rows among all.
+fn placed(alloc: Global, cluster: &Cluster, p: ProcNo) -> io::Result<Vec<ClockedRow>> {
     let mut part = Vec::new(alloc);
     let mut clock: u64 = 0;
-    for row in cluster.rows() {
+    for told in cluster.rows() {
         clock = clock.saturating_add(1);
-        if row.row.p == p {
-            let row = row.row;
-            part.push(PartRow { clock, row })?;
+        let row = told.row;
+        if row.p == p {
+            part.push(ClockedRow { clock, row })?;
         }
     }
-    let mut text = Vec::new(alloc);
-    value_of(write_part(alloc, part.as_slice(), &mut text))?;
-    Ok(text)
+    Ok(part)
 }
 
-// The text of a process's part.
-fn text_by_clock(alloc: Global, cluster: &Cluster, p: ProcNo) -> io::Result<Vec<u8>> {
-    let mut part = Vec::new(alloc);
-    for row in &value_of(cluster.part(alloc, p))? {
-        let clock = row.clock;
-        let row = row.row;
-        part.push(PartRow { clock, row })?;
-    }
-    let mut text = Vec::new(alloc);
-    value_of(write_part(alloc, part.as_slice(), &mut text))?;
-    Ok(text)
-}
-
-// The log of all, merged of their parts by the clocks or by the places of their rows.
-fn log_of(alloc: Global, cluster: &Cluster, by_clock: bool) -> io::Result<Vec<u8>> {
+/// The log of so many nodes, merged of their parts by the clocks or by the places of their rows.
+pub(crate) fn log_of(
+    alloc: Global,
+    cluster: &Cluster,
+    count: u8,
+    by_clock: bool,
+) -> io::Result<Vec<u8>>
+    requires { count ≤ 64 }
+{
     let mut pieces = Vec::new(alloc);
-    for number in 0..COUNT {
+    for number in 0..count {
         let p = ProcNo::nth(number);
-        let text = if by_clock {
-            text_by_clock(alloc, cluster, p)?
+        let part = if by_clock {
+            value_of(cluster.part(alloc, p))?
         } else {
-            text_by_place(alloc, cluster, p)?
+            placed(alloc, cluster, p)?
         };
-        pieces.extend_from_slice(text.as_slice())?;
+        pieces.extend_from_slice(part_text(alloc, part.as_slice())?.as_slice())?;
         pieces.extend_from_slice(PIECE_END)?;
     }
     let mut log = Vec::new(alloc);
@@ -116,8 +109,8 @@ pub(crate) fn show_cluster<R: Print + AllocGlobal>(rt: &R, case: &Case) -> io::R
     for line in steps.lines() {
         follow(rt, &mut cluster, line)?;
     }
-    let by_place = log_of(rt.alloc(), &cluster, false)?;
-    let by_clock = log_of(rt.alloc(), &cluster, true)?;
+    let by_place = log_of(rt.alloc(), &cluster, COUNT, false)?;
+    let by_clock = log_of(rt.alloc(), &cluster, COUNT, true)?;
     io::writer(rt).write_all(by_clock.as_slice())?;
     let up = cluster
         .nodes()

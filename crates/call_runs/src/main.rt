@@ -7,6 +7,7 @@ mod certificates;
 mod certified;
 mod channels;
 mod clusters;
+mod drawn;
 mod entries;
 mod failing;
 mod failing_reads;
@@ -34,6 +35,7 @@ mod writing;
 mod written_parts;
 
 use channels::show_channels;
+use drawn::show_drawn;
 use limits::show_limits;
 use long_logs::show_long_logs;
 use merge_limits::show_merge_limits;
@@ -57,5 +59,6 @@ fn main(rt: HostRuntime) -> io::Result<()> {
     show_merge_limits(&rt)?;
     show_stored_parts(&rt)?;
     show_nodes(&rt)?;
-    show_clusters(&rt)
+    show_clusters(&rt)?;
+    show_drawn(&rt)
 }

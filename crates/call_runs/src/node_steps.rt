@@ -2,25 +2,15 @@
 
 use kt_base::{Kind, ProcNo};
 use kt_net::NodeParcel;
-use kt_node::Envelope;
+use kt_node::{ClusterStep, Envelope};
 use kt_spacetime::{Count, InstName};
 
-/// What a line says: whose step it is, and what comes to it.
+/// A parcel that nobody put: who takes it, and who is said to have put it.
 #[derive(Clone, Copy)]
-pub(crate) struct Step {
-    pub(crate) p: ProcNo,
-    pub(crate) what: What,
-}
-
-/// A command, the front of a link, what was taken last of it, or a parcel that nobody put there.
-#[derive(Clone, Copy)]
-pub(crate) enum What {
-    Send(ProcNo, i64),
-    Begin(Kind, bool),
-    Fail,
-    Take(ProcNo, bool),
-    Again(ProcNo),
-    Forged(ProcNo, Envelope),
+pub(crate) struct Forged {
+    pub(crate) at: ProcNo,
+    pub(crate) from: ProcNo,
+    pub(crate) envelope: Envelope,
 }
 
 // A process, by its number.
@@ -37,54 +27,58 @@ fn inst_of(initiator: Option<&str>, count: Option<&str>) -> Option<InstName> {
     Some(InstName { initiator, count })
 }
 
-// Whether the last word says that the object can't be saved.
-fn is_able(word: Option<&str>) -> bool {
-    word.is_none()
-}
-
-// A parcel with this number and the clock 0.
-fn forged(number: u64, parcel: NodeParcel) -> Envelope {
-    Envelope {
-        number,
-        clock: 0,
-        parcel,
-    }
-}
-
-/// The step that a line says, if it says one.
-pub(crate) fn step_of(line: &str) -> Option<Step> {
+/// The step that a line says, if it says one. A last word says that the object can't be saved.
+pub(crate) fn step_of(line: &str) -> Option<ClusterStep> {
     let mut words = line.split(' ');
     let verb = words.next()?;
-    let p = process_of(words.next())?;
-    let what = match verb {
+    let at = process_of(words.next())?;
+    match verb {
         "send" => {
             let to = process_of(words.next())?;
             let body: i64 = words.next()?.parse().ok()?;
-            What::Send(to, body)
+            Some(ClusterStep::Send { at, to, body })
         }
-        "checkpoint" => What::Begin(Kind::Checkpoint, is_able(words.next())),
-        "rollback" => What::Begin(Kind::Rollback, true),
-        "fail" => What::Fail,
+        "checkpoint" => {
+            let kind = Kind::Checkpoint;
+            let able = words.next().is_none();
+            Some(ClusterStep::Begin { at, kind, able })
+        }
+        "rollback" => {
+            let kind = Kind::Rollback;
+            let able = true;
+            Some(ClusterStep::Begin { at, kind, able })
+        }
+        "fail" => Some(ClusterStep::Fail { at }),
         "take" => {
             let from = process_of(words.next())?;
-            What::Take(from, is_able(words.next()))
+            let able = words.next().is_none();
+            Some(ClusterStep::Take { at, from, able })
         }
-        "again" => What::Again(process_of(words.next())?),
-        "reply" => {
-            let from = process_of(words.next())?;
-            let number = words.next()?.parse().ok()?;
-            let inst = inst_of(words.next(), words.next())?;
-            let willing = false;
-            What::Forged(from, forged(number, NodeParcel::Reply { inst, willing }))
-        }
-        "decide" => {
-            let from = process_of(words.next())?;
-            let number = words.next()?.parse().ok()?;
-            let inst = inst_of(words.next(), words.next())?;
-            let commit = true;
-            What::Forged(from, forged(number, NodeParcel::Decide { inst, commit }))
-        }
+        _ => None,
+    }
+}
+
+/// The forged parcel that a line says, if it says one: its number, and the instance that it names.
+pub(crate) fn forged_of(line: &str) -> Option<Forged> {
+    let mut words = line.split(' ');
+    let verb = words.next()?;
+    let at = process_of(words.next())?;
+    let from = process_of(words.next())?;
+    let number: u64 = words.next()?.parse().ok()?;
+    let inst = inst_of(words.next(), words.next())?;
+    let clock = 0;
+    let parcel = match verb {
+        "reply" => NodeParcel::Reply {
+            inst,
+            willing: false,
+        },
+        "decide" => NodeParcel::Decide { inst, commit: true },
         _ => return None,
     };
-    Some(Step { p, what })
+    let envelope = Envelope {
+        number,
+        clock,
+        parcel,
+    };
+    Some(Forged { at, from, envelope })
 }

@@ -96,9 +96,14 @@ abbrev pub fault_coming : NodeState → Option Input → Option ManagerFault
 fault_coming y None = None
 fault_coming y (Some x) = fault_at y x
 
+-- something comes, and its manager takes it
+abbrev pub IsTaken : NodeState → Option Input → Type 0
+IsTaken y None = ⊥
+IsTaken y (Some x) = fault_at y x ≡ None
+
 -- a step of a process that is there is refused exactly so, but for the clock and memory
 abbrev pub IsRefusedIn : {X : Type 0} → NodeState → Option Input → Result X ClusterFault → Type 0
-IsRefusedIn y o (Ok x) = fault_coming y o ≡ None
+IsRefusedIn y o (Ok x) = IsTaken y o
 IsRefusedIn y o (Err fault.Unknown) = ⊥
 IsRefusedIn y o (Err fault.NothingToTake) = o ≡ None
 IsRefusedIn y o (Err fault.Memory) = Unit {0}

@@ -6,10 +6,11 @@ ghost use Rattle.kt_meaning.specs.Names.{numbered};
 ghost use Rattle.kt_meaning.specs.Promised.{IsPromised};
 ghost use Rattle.kt_spacetime.specs.declared.event.Event.{Event};
 ghost use Rattle.kt_machine.specs.Acts.{stepper};
-ghost use Rattle.kt_net.specs.Clocks.{clocked_acts, rows_of, AreByClock};
+ghost use Rattle.kt_net.specs.Clocks.{clocked_acts, clocked_row, rows_of, AreByClock};
 ghost use Rattle.kt_net.specs.Erasing.{rows_from};
 ghost use Rattle.kt_net.specs.declared.rows.ClockedRow.{ClockedRow as clocked_rows};
 ghost use Rattle.kt_system.specs.ShownActs.{acts_shown};
+ghost use Rattle.kt_node.specs.Effects.{rows_told};
 ghost use Rattle.kt_node.specs.Clusters.{step_of, net_after, IsRun, AreFresh, ArePromised, coming_to, IsRefusedIn};
 ghost use Rattle.kt_node.specs.declared.cluster.ClusterFault.TheVariants as fault;
 
@@ -190,6 +191,8 @@ impl Cluster {
         ensures acts { (steps : List ProtocolStep) → IsRun self.old steps →
             IfOk result (λ out. acts_shown out.effects.acts
             ≡ clocked_acts (net_after self.old steps) (step_of next.now)) }
+        ensures rows { IfOk result (λ out. self.new.rows ≡ self.old.rows
+            ++ map (clocked_row (stepper (step_of next.now)) out.clock) (rows_told out.effects.rows)) }
         ensures refused { (steps : List ProtocolStep) → IsRun self.old steps →
             let w = net_after self.old steps in
             (result ≡ Err fault.Unknown → ⊥) →

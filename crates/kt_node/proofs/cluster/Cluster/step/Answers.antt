@@ -198,3 +198,15 @@ returns-clause-nodes c =
     let out = c.in_ok-output.output in
     let others = c.in_ok-output.ensures.others in
     as_many s x nodes after after s.rows few b others ∙ ap (λ (v : ClusterState). length v.nodes) view
+
+pub returns-clause-rows : goal.returns-clause-rows
+returns-clause-rows c =
+    let inside = c.self.inside in
+    let before : ClusterState = record { nodes = inside.nodes.items; on_way = inside.on_way.items; rows = inside.rows.items; first = inside.first } in
+    let s : ClusterState = record { nodes = inside.nodes.items; on_way = c.make_room.new.on_way.items; rows = c.make_room.new.rows.items; first = inside.first } in
+    let same : s ≡ before = ap₂ (λ (w : List OnWay) (r : List ClockedRow). record { nodes = inside.nodes.items; on_way = w; rows = r; first = inside.first }) c.in_ok-make_room.ensures.same_on_way c.in_ok-make_room.ensures.same_rows in
+    let view : s ≡ c.args.self.now = same ∙ c.self.view_is in
+    let x = step_of c.args.next.now in
+    let out = c.in_ok-output.output in
+    let told = c.carry_out.ensures.told ∙ ap (λ (q : ℕ). s.rows ++ map (clocked_row q out.clock) (rows_told out.effects.rows)) c.at-at.ensures in
+    told ∙ ap (λ (v : ClusterState). v.rows ++ map (clocked_row (stepper x) out.clock) (rows_told out.effects.rows)) view
