@@ -1,7 +1,6 @@
 //! Shows what is read from each stored run: its first broken rule, or what its histories are after each row, as both
-//! readers tell it, the checker's answer in both formats, whether what is written is what was read, its answer to
-//! certificates that are made after each row, and whether those made of its text are the stored ones. Then plays each
-//! scenario that a stored run is of, some in many drawn orders, and runs each in threads, and shows some as pictures. Then
+//! readers tell it, the checker's answer in both formats, and whether the certificates made of its text are the stored ones.
+//! Then plays each scenario that a stored run is of, some in many drawn orders, and runs each in threads, and shows some as pictures. Then
 //! shows what the program writes of other texts and command lines, and of words that are no texts, the line of each fault,
 //! and what comes of a reader that is always interrupted and of the longest logs, and runs the callers that
 //! `docs/CALLING.md` shows. Then shows runs over objects of its own: that can't be saved or brought back, that a plan does
@@ -13,7 +12,6 @@
 mod again;
 mod answers;
 mod cases;
-mod certified;
 mod commands;
 mod counter;
 mod facts;

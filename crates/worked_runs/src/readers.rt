@@ -9,9 +9,6 @@ use kt_walk::Walk;
 use std::alloc::Global;
 use std::io;
 
-// How many shares the part of a history past its permanent position has.
-const SHARES: usize = 4;
-
 // What the first rows of a legal log say.
 fn histories_of(alloc: Global, log: &SpaceTime, upto: usize) -> io::Result<Histories> {
     match legal(alloc, log) {
@@ -30,7 +27,7 @@ pub(crate) fn is_read_so(alloc: Global, log: &SpaceTime, walk: &Walk) -> io::Res
 fn is_same_after(walk: &Walk, histories: &Histories) -> bool {
     has_same_processes(walk, histories)
         && has_same_messages(walk, histories)
-        && has_same_orphans(walk, histories)
+        && has_same_orphan(walk, histories)
 }
 
 fn has_same_processes(walk: &Walk, histories: &Histories) -> bool {
@@ -80,59 +77,12 @@ fn has_same_messages(walk: &Walk, histories: &Histories) -> bool {
     kept == walk.held()
 }
 
-// The length of a process's part with so many shares: from its permanent position to its whole history.
-fn part(walk: &Walk, p: ProcNo, shares: usize) -> usize {
-    let permanent = walk.permanent(p);
-    let more = walk.length(p).saturating_sub(permanent);
-    permanent.saturating_add(more.saturating_mul(shares) / SHARES)
-}
-
-// The cut with so many shares of each history.
-fn cut_with(walk: &Walk, shares: usize) -> Cut {
+// Whether both find the same orphan of the cut of the present positions.
+fn has_same_orphan(walk: &Walk, histories: &Histories) -> bool {
     let mut cut = Cut::new([0; 64]);
     for number in 0..ProcNo::COUNT {
         let p = ProcNo::nth(number);
-        cut.set(p, part(walk, p, shares));
+        cut.set(p, walk.length(p));
     }
-    cut
-}
-
-// Whether both find the same orphan of a cut.
-fn has_same_orphan(walk: &Walk, histories: &Histories, cut: &Cut) -> bool {
-    walk.orphan(cut) == histories.first_orphan(cut)
-}
-
-// Whether both find the same orphan of a cut where one process has so many shares instead.
-fn has_same_orphan_with(
-    walk: &Walk,
-    histories: &Histories,
-    mut cut: Cut,
-    p: ProcNo,
-    shares: usize,
-) -> bool {
-    cut.set(p, part(walk, p, shares));
-    has_same_orphan(walk, histories, &cut)
-}
-
-// Whether both find the same orphan of a cut, and of those where one process has all shares or none.
-fn has_same_orphans_near(walk: &Walk, histories: &Histories, cut: Cut) -> bool {
-    for number in 0..8 {
-        let p = ProcNo::nth(number);
-        if !has_same_orphan_with(walk, histories, cut, p, SHARES)
-            || !has_same_orphan_with(walk, histories, cut, p, 0)
-        {
-            return false;
-        }
-    }
-    has_same_orphan(walk, histories, &cut)
-}
-
-// Whether both find the same orphans of the cuts with each number of shares of each history.
-fn has_same_orphans(walk: &Walk, histories: &Histories) -> bool {
-    for shares in 0..SHARES + 1 {
-        if !has_same_orphans_near(walk, histories, cut_with(walk, shares)) {
-            return false;
-        }
-    }
-    true
+    walk.orphan(&cut) == histories.first_orphan(&cut)
 }

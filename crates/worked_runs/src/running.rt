@@ -1,15 +1,13 @@
 //! Runs over objects of one's own, one step after another and in threads.
 
-ghost use Rattle.kt_meaning.specs.Promised.{IsCertified};
-
 use crate::commands::{Host, value_of};
 use crate::counter::{Count, Counter};
-use crate::stepping::show_log;
+use crate::outcomes::show_outcome;
 use kt_base::Memory;
-use kt_object::{Cast, Held, Object, SlotBook};
-use kt_plan::{Look, Plan, Told};
+use kt_object::{Cast, Object, SlotBook};
+use kt_plan::Plan;
 use kt_program::cast_of;
-use kt_run::{Outcome, run};
+use kt_run::run;
 use kt_scenario::parse;
 use kt_threads::live;
 use std::sync::Arc;
@@ -24,12 +22,7 @@ enum Way {
 }
 
 /// Runs a plan over these objects, one step after another, and shows what is left of it.
-fn show_run<R: Print + AllocGlobal>(
-    rt: &R,
-    plan: &Plan,
-    cast: Cast,
-    book: &mut SlotBook,
-) -> io::Result<()> {
+fn show_run<R: Host>(rt: &R, plan: &Plan, cast: Cast, book: &mut SlotBook) -> io::Result<()> {
     match run(rt.alloc(), plan, &[], cast) {
         Ok(outcome) => show_outcome(rt, &outcome, book),
         Err(fault) => println!(rt; "{fault}"),
@@ -64,51 +57,6 @@ fn show_counters<R: Host>(
         Way::Run => show_run(rt, plan, cast, book),
         Way::Live => show_live(rt, plan, cast, book),
     }
-}
-
-/// Shows what is left of a run, and which slots are out while it is there.
-fn show_outcome<R: Print + AllocGlobal>(
-    rt: &R,
-    outcome: &Outcome,
-    book: &mut SlotBook,
-) -> io::Result<()>
-    requires certified { IsCertified outcome.now.log.rows }
-{
-    show_log(rt, &outcome.log)?;
-    show_all_told(rt, outcome.told.as_slice())?;
-    show_all_held(rt, outcome.objects.as_slice())?;
-    show_slots(rt, book)
-}
-
-// Shows what the processes were told.
-fn show_all_told<R: Print>(rt: &R, lists: &[Vec<Told>]) -> io::Result<()> {
-    for told in lists {
-        show_told(rt, told.as_slice())?;
-    }
-    Ok(())
-}
-
-// Shows how many steps a process was told, and how many rows of its own they have.
-fn show_told<R: Print>(rt: &R, list: &[Told]) -> io::Result<()> {
-    let mut rows: usize = 0;
-    for told in list {
-        rows = rows.saturating_add(told.rows.iter().flatten().count());
-    }
-    println!(rt; "told {} steps, {rows} rows", list.len())
-}
-
-// Shows what the processes hold.
-fn show_all_held<R: Print + AllocGlobal>(rt: &R, objects: &[Held]) -> io::Result<()> {
-    for held in objects {
-        show_held(rt, held)?;
-    }
-    Ok(())
-}
-
-// Shows what a process's object offers, and its saved state.
-fn show_held<R: Print + AllocGlobal>(rt: &R, held: &Held) -> io::Result<()> {
-    let body = held.ask(rt.alloc(), Look::NeedsBody).give.body;
-    println!(rt; "offers {body}, saved {:?}", held.depot.permanent())
 }
 
 // Shows how many slots come free now, and how many are out then.

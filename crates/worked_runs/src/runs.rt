@@ -1,6 +1,5 @@
 //! Stored runs, as they are read.
 
-use crate::certified::show_certified;
 use crate::commands::{Host, stored, value_of};
 use crate::facts::show_facts;
 use crate::made::show_made;
@@ -21,8 +20,7 @@ fn show_log<R: Host>(rt: &R, log: &SpaceTime) -> io::Result<()> {
 // Shows what a log and its certificates say.
 fn show_run<R: Host>(rt: &R, log: &SpaceTime, text: &[u8], cert: &[u8]) -> io::Result<()> {
     show_log(rt, log)?;
-    show_texts(rt, log, text, cert)?;
-    show_certified(rt, log)?;
+    show_texts(rt, text, cert)?;
     show_made(rt, text, cert)?;
     show_made(rt, text.strip_prefix(HEADER).unwrap_or(text), cert)
 }
