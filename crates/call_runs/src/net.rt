@@ -103,6 +103,13 @@ impl Net {
         }
     }
 
+    // The front of a link was taken.
+    fn remove_front(&mut self, from: ProcNo, to: ProcNo) {
+        if let Some(place) = self.on_way.iter().position(|x| x.is_between(from, to)) {
+            self.on_way.remove(place);
+        }
+    }
+
     /// A process makes the step at what comes to it.
     pub(crate) fn make(
         &mut self,
@@ -133,13 +140,6 @@ impl Net {
         match made {
             Ok(output) => self.put(at, &output),
             Err(fault) => Ok(Done::Refused(fault)),
-        }
-    }
-
-    // The front of a link was taken.
-    fn remove_front(&mut self, from: ProcNo, to: ProcNo) {
-        if let Some(place) = self.on_way.iter().position(|x| x.is_between(from, to)) {
-            self.on_way.remove(place);
         }
     }
 
