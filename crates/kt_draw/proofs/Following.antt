@@ -13,7 +13,7 @@ use Rattle.kt_meaning.proofs.Items.{get_left, get_seam}
 use Rattle.kt_spacetime.specs.declared.certificate.Certificate.{Certificate}
 use Rattle.kt_walk.specs.WalkOf.{WalkOf}
 use Rattle.kt_walk.specs.WalkParts.{WalkParts}
-use Rattle.kt_picture.specs.declared.breach.Breach.{Breach}
+use Rattle.kt_picture.specs.declared.window.Breach.{Breach}
 use Rattle.kt_picture.specs.declared.diagram.Diagram.{Diagram}
 use Rattle.kt_picture.specs.declared.diagram.Sheet.{Sheet}
 use Rattle.kt_picture.specs.DiagramOf.{DiagramOf, HasRowsFor, SheetOf}

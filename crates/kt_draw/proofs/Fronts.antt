@@ -9,7 +9,7 @@ use Rattle.kt_meaning.specs.Past.{Past, start, after}
 use Rattle.kt_meaning.specs.Legal.{IsLegal, IsLegalAfter, broken_rule, first_broken, first_broken_after, or_later}
 use Rattle.kt_meaning.proofs.Items.{some_same}
 use Rattle.kt_spacetime.specs.declared.certificate.Certificate.{Certificate}
-use Rattle.kt_picture.specs.declared.breach.Breach.{Breach}
+use Rattle.kt_picture.specs.declared.window.Breach.{Breach}
 use Rattle.kt_picture.specs.Breach.{breach_columns}
 use Rattle.kt_draw.specs.declared.span.Span.{Span}
 use Rattle.kt_draw.specs.declared.fault.PictureFault.{PictureFault}

@@ -15,7 +15,7 @@ use Rattle.kt_spacetime.specs.Verdicts.{verdict_words}
 use Rattle.kt_explain.specs.declared.explanation.Explanation.{Explanation}
 use Rattle.kt_explain.specs.declared.explanation.Explanation.TheVariants.{Orphan}
 use Rattle.kt_explain.specs.Told.{IsExplanation}
-use Rattle.kt_picture.specs.declared.breach.Breach.{Breach}
+use Rattle.kt_picture.specs.declared.window.Breach.{Breach}
 use Rattle.kt_picture.specs.Breach.{breach_columns, caption_of}
 use Rattle.kt_picture.specs.Picture.{picture_of}
 use Rattle.kt_draw.specs.declared.fault.DrawFault.{DrawFault}

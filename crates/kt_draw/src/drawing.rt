@@ -1,18 +1,17 @@
 //! Rows of a stored log drawn while they are read, by a walk over the log beside the window of a picture.
 
-ghost use Rattle.std.specs.Prelude.{◌≡◌, ◌≤◌, ◌<◌, ◌+◌, ◌-◌, ◌^◌, ◌++◌, ◌∷◌, [], ℕ, List, Option, Some, Err, IfOk, IfErr, OnOk, length, take};
+ghost use Rattle.std.specs.Prelude.{◌≡◌, ◌≤◌, ◌<◌, ◌+◌, ◌^◌, ◌++◌, ◌∷◌, [], ℕ, List, Option, Some, Err, IfOk, IfErr, OnOk, length, take};
 ghost use Rattle.kt_spacetime.specs.declared.event.Event.{Event};
 ghost use Rattle.kt_spacetime.specs.declared.rules.Rule.{Rule};
 ghost use Rattle.kt_rules.specs.declared.legality.LegalFault.TheVariants as legality;
 ghost use Rattle.kt_meaning.specs.Answers.{IsCheckerAnswer};
 ghost use Rattle.kt_meaning.specs.Legal.{first_broken};
 ghost use Rattle.kt_log_text.specs.Reading.{IsUnread, rows_unread};
-ghost use Rattle.kt_picture.specs.declared.diagram.Sheet.{Sheet};
 ghost use Rattle.kt_picture.specs.Breach.{caption_of};
 ghost use Rattle.kt_picture.specs.DiagramOf.{SheetOf};
 ghost use Rattle.kt_draw.specs.declared.span.Span.{Span as Spans};
-ghost use Rattle.kt_draw.specs.Drawn.{answer_sentence, first_row, IsCertifiedPicture, IsNoPictureOf, IsOrphanDrawn, IsPictureOf, IsPictureTo, IsUndrawnLog, orphan_told};
-ghost use Rattle.kt_draw.specs.Followed.{AreRowsRead, FollowedOf, ReadingOf, last_wanted};
+ghost use Rattle.kt_draw.specs.Drawn.{answer_sentence, IsCertifiedPicture, IsNoPictureOf, IsOrphanDrawn, IsPictureOf, IsPictureTo, IsUndrawnLog, orphan_told};
+ghost use Rattle.kt_draw.specs.Followed.{AreRowsRead, FollowedOf, ReadingOf};
 
 use crate::fault::DrawFault;
 use crate::span::{Span, first_row, last_drawn, last_wanted};
@@ -162,9 +161,16 @@ impl Reading {
     fn new(alloc: Global, span: Span) -> Result<Reading, Memory>
         ensures { IfOk result (λ r. ReadingOf r span []) }
     {
-        let followed = Followed::new(alloc, span)?;
+        let before = first_row(span.from).saturating_sub(1);
         Ok(Reading {
-            followed,
+            followed: Followed {
+                alloc,
+                walk: Walk::new(alloc)?,
+                diagram: Diagram::new(alloc),
+                sheet: None,
+                before,
+                last: last_wanted(before, span.to),
+            },
             breach: None,
             count: 0,
         })
@@ -195,7 +201,7 @@ impl Reading {
         ensures { IfOk result (λ line. (span : Spans) (read : List Event) (h : ReadingOf self.now span read)
             → line.items ≡ caption_of (length h.kept + 1) self.now.breach) }
     {
-        caption(alloc, self.followed.rows() as u32 + 1, self.breach)
+        caption(alloc, self.followed.walk.rows() as u32 + 1, self.breach)
     }
 
     // The picture of the rows that are asked for, of all rows that were read, with what certificates tell of them, and this
@@ -216,7 +222,7 @@ impl Reading {
             evidence.now.certificates.now evidence.now.orphan line.now text.items) }
         ensures fault { (read : List Event) → ReadingOf self.old span read → IfErr result (IsUndrawnLog span read) }
     {
-        let kept = self.followed.rows();
+        let kept = self.followed.walk.rows();
         let seen = kept + usize::from(self.breach.is_some());
         let last = last_drawn(self.count, seen, span)?;
         let breach = if kept < last { self.breach } else { None };
@@ -240,30 +246,6 @@ struct Followed {
 }
 
 impl Followed {
-    // A walk that was fed no rows, with the window that is asked for.
-    fn new(alloc: Global, span: Span) -> Result<Followed, Memory>
-        ensures of { IfOk result (λ f. FollowedOf f []) }
-        ensures before { IfOk result (λ f. f.before ≡ first_row span.from - 1) }
-        ensures last { IfOk result (λ f. f.last ≡ last_wanted (first_row span.from - 1) span.to) }
-    {
-        let before = first_row(span.from).saturating_sub(1);
-        Ok(Followed {
-            alloc,
-            walk: Walk::new(alloc)?,
-            diagram: Diagram::new(alloc),
-            sheet: None,
-            before,
-            last: last_wanted(before, span.to),
-        })
-    }
-
-    // How many rows were fed.
-    fn rows(&self) -> usize
-        ensures { result ≡ self.now.walk.rows }
-    {
-        self.walk.rows()
-    }
-
     // One more row, where it breaks no rule of a legal log.
     fn add(&mut self, row: &Event) -> Result<(), LegalFault>
         requires few { (rows : List Event) × FollowedOf self.old rows × (length rows < 2 ^ 24) }
@@ -282,23 +264,10 @@ impl Followed {
         if rows < self.last {
             return self.diagram.add(&mut self.walk, row);
         }
-        self.close()?;
-        self.walk.feed(row)
-    }
-
-    // Keeps the sheet of the window, after which the next row comes.
-    fn close(&mut self) -> Result<(), Memory>
-        requires few { (rows : List Event) × FollowedOf self.old rows × (length rows ≤ 2 ^ 24) }
-        ensures closed { OnOk result ((rows : List Event) → FollowedOf self.old rows → self.old.last ≤ length rows
-            → FollowedOf self.new rows) }
-        ensures sheet { OnOk result ((sheet : Sheet) × (self.new.sheet ≡ Some sheet)) }
-        ensures walk { self.new.walk ≡ self.old.walk }
-        ensures before { self.new.before ≡ self.old.before }
-        ensures last { self.new.last ≡ self.old.last }
-    {
+        // Its sheet is kept, since this row comes after it.
         let sheet = self.sheet()?;
         self.sheet = Some(sheet);
-        Ok(())
+        self.walk.feed(row)
     }
 
     // The window, with what became of its rows by its end; it is given away.

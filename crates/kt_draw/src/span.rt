@@ -1,7 +1,7 @@
 //! Which rows of a log are drawn.
 
-ghost use Rattle.std.specs.Prelude.{◌≡◌, ◌≤◌, ◌<◌, ◌^◌, IfOk, IfErr, MatchBool};
-ghost use Rattle.kt_draw.specs.Drawn.{HasRows, IsNoWindow, IsShort, HasLast, first_row, last_row};
+ghost use Rattle.std.specs.Prelude.{◌≡◌, ◌≤◌, ◌<◌, ◌^◌, IfOk, IfErr};
+ghost use Rattle.kt_draw.specs.Drawn.{HasRows, IsNoWindow, IsShort, first_row, last_row};
 ghost use Rattle.kt_draw.specs.Followed.{last_wanted};
 
 use crate::fault::PictureFault;
@@ -26,8 +26,12 @@ pub(crate) fn last_drawn(rows: usize, seen: usize, span: Span) -> Result<usize, 
     ensures fault { IfErr result (IsNoWindow rows seen span) }
 {
     let first = first_row(span.from);
-    let last = last_row(seen, span.to);
-    if !is_within(rows, span.to) || first == 0 || last < first {
+    let last = match span.to {
+        Some(to) if to as usize > rows => return Err(PictureFault::NoRows),
+        Some(to) => seen.min(to as usize),
+        None => seen,
+    };
+    if first == 0 || last < first {
         return Err(PictureFault::NoRows);
     }
     if last - first >= MOST_COLUMNS {
@@ -57,24 +61,5 @@ pub(crate) fn first_row(from: Option<u32>) -> usize
     match from {
         Some(from) => from as usize,
         None => 1,
-    }
-}
-
-fn last_row(seen: usize, to: Option<u32>) -> usize
-    ensures { result ≡ last_row seen to }
-{
-    match to {
-        Some(to) if (to as usize) < seen => to as usize,
-        _ => seen,
-    }
-}
-
-// Whether a log with so many rows has the last one that is asked for.
-fn is_within(rows: usize, to: Option<u32>) -> bool
-    ensures { MatchBool result (HasLast rows to) (¬ HasLast rows to) }
-{
-    match to {
-        Some(to) => to as usize <= rows,
-        None => true,
     }
 }

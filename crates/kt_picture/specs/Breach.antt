@@ -3,7 +3,7 @@ use Rattle.std.specs.Prelude.{ℕ, if◌then◌else◌, true, false, Option, Som
 use Rattle.std.specs.List.{concat}
 use Rattle.std.specs.Fmt.{decimal}
 use Rattle.kt_spacetime.specs.declared.event.Event.{Event}
-use Rattle.kt_picture.specs.declared.breach.Breach.{Breach}
+use Rattle.kt_picture.specs.declared.window.Breach.{Breach}
 use Rattle.kt_picture.specs.declared.window.Shown.{Shown}
 use Rattle.kt_picture.specs.Texts.{rule_label}
 

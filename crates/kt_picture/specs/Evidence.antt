@@ -1,6 +1,6 @@
 -- What certificates add to a picture: whose chain has a message, and why a member took part.
 use Rattle.std.specs.Prelude.{◌==◌, ℕ, zero, suc, nat_lt, if◌then◌else◌, Bool, Option, Some, None, List, [], ◌∷◌, ◌++◌, codes, length, find}
-use Rattle.std.specs.List.{list_any, flat_map, concat}
+use Rattle.std.specs.List.{list_any, flat_map}
 use Rattle.std.specs.Fmt.{decimal}
 use Rattle.std.specs.Option.{option_map}
 use Rattle.kt_spacetime.specs.declared.event.Event.{Event}
@@ -42,7 +42,7 @@ chain_for certificates inst p = chain_listed (find (λ c. c.inst == inst) certif
 
 -- between whom a message went, as the row that sent it says
 abbrev pub ends_of_message : List (List ℕ) → Option Event → List ℕ
-ends_of_message names (Some (Sent p to body)) = concat (codes ":" ∷ name_text names p ∷ codes "&gt;" ∷ name_text names to ∷ [])
+ends_of_message names (Some (Sent p to body)) = codes ":" ++ (name_text names p ++ (codes "&gt;" ++ name_text names to))
 ends_of_message names _ = []
 
 -- a message of a chain: its number and between whom it went

@@ -3,27 +3,33 @@ use Rattle.std.specs.Prelude.{ℕ, ◌+◌, ◌-◌, ◌*◌, ◌/◌, ◌%◌, 
 use Rattle.std.specs.List.{flat_map, concat}
 use Rattle.std.specs.Fmt.{decimal}
 use Rattle.std.specs.Option.{option_map}
+use Rattle.kt_spacetime.specs.Events.{process_of}
 use Rattle.kt_text.specs.Writing.{joined}
 use Rattle.kt_log_text.specs.Spelling.{spelling}
-use Rattle.kt_picture.specs.declared.breach.Breach.{Breach}
+use Rattle.kt_picture.specs.declared.window.Breach.{Breach}
 use Rattle.kt_picture.specs.declared.layers.Layer.{Layer}
 use Rattle.kt_picture.specs.declared.layers.Layer.TheVariants as layer
 use Rattle.kt_picture.specs.declared.layers.Thread.{Thread}
 use Rattle.kt_picture.specs.declared.layers.Thread.TheVariants as thread
 use Rattle.kt_picture.specs.declared.looks.TheConstants.{STYLE, HEADS}
 use Rattle.kt_picture.specs.declared.legend.Sign.{Sign}
-use Rattle.kt_picture.specs.declared.words.Mark.{Mark}
-use Rattle.kt_picture.specs.declared.words.Mark.TheVariants as mark
+use Rattle.kt_picture.specs.declared.looks.Look.{Look}
+use Rattle.kt_picture.specs.declared.looks.Look.TheVariants as look
+use Rattle.kt_picture.specs.declared.looks.Outline.TheVariants.{Along}
 use Rattle.kt_picture.specs.declared.looks.Path.{Path}
+use Rattle.kt_picture.specs.declared.looks.Place.{Place}
 use Rattle.kt_picture.specs.declared.window.CutMark.{CutMark}
 use Rattle.kt_picture.specs.declared.window.Shown.{Shown}
+use Rattle.kt_picture.specs.declared.window.Stretch.{Stretch}
+use Rattle.kt_picture.specs.declared.words.Saying.TheVariants as say
+use Rattle.kt_picture.specs.declared.words.Word.{Word}
 use Rattle.kt_picture.specs.Breach.{breach_shown}
 use Rattle.kt_picture.specs.Escaping.{escaped}
 use Rattle.kt_picture.specs.Lanes.{lane_of}
 use Rattle.kt_picture.specs.Legend.{legend_from, signs_of}
-use Rattle.kt_picture.specs.Looks.{path_text, x_of, y_of}
-use Rattle.kt_picture.specs.Marks.{arrow_of, figure_of, number_at, stretch_of, word_at}
-use Rattle.kt_picture.specs.Texts.{drawn, mark_text, name_text}
+use Rattle.kt_picture.specs.Looks.{path_at, path_text, x_of, y_of}
+use Rattle.kt_picture.specs.Marks.{arrow_of, figure_of, number_at, place_at, word_at}
+use Rattle.kt_picture.specs.Texts.{drawn, name_text}
 use Rattle.kt_picture.specs.View.{View}
 
 -- how wide a picture is: no narrower than its columns, and than a line of text of this length, of which no more than 4096
@@ -66,9 +72,18 @@ arrow_text view s = titled_if view s (arrow_of view s)
 abbrev pub figure_text : View → Shown → List ℕ
 figure_text view s = titled_text view s (figure_of view s)
 
+-- a stretch of a lane from a place on to a column, dashed while its process is down, and over a bar while it is in an instance
+abbrev pub lane_text : Look → Option ℕ → Place → ℕ → List ℕ
+lane_text up None from until = path_text (path_at from up None (Along until)) ++ codes "\n"
+lane_text up (Some inst) from until = concat (
+    path_text (path_at from look.Bar (Some inst) (Along until)) ∷ codes "\n" ∷ path_text (path_at from up None (Along until)) ∷ codes "\n" ∷ [])
+
+abbrev pub stretch_text : Stretch → Place → ℕ → List ℕ
+stretch_text s from until = lane_text (if s.up then look.Up else look.Down) s.open_in from until
+
 -- the marks of a row in a layer
 abbrev pub row_mark : Layer → View → Shown → List ℕ
-row_mark layer.Stretches view s = mark_text (stretch_of view s)
+row_mark layer.Stretches view s = stretch_text s.stretch (place_at view s.stretch.since (process_of s.event)) s.column
 row_mark layer.Arrows view s = arrow_text view s
 row_mark layer.Figures view s = figure_text view s
 row_mark layer.Words view s = drawn (number_at s.row s.column) ++ drawn (word_at view s s.event)
@@ -77,24 +92,24 @@ row_mark layer.Words view s = drawn (number_at s.row s.column) ++ drawn (word_at
 abbrev pub rows_text : Layer → View → List ℕ
 rows_text layer view = flat_map (row_mark layer view) view.shown
 
--- where lanes end: at the row that breaks a rule, else behind the last row
-abbrev pub right_of : View → ℕ
-right_of view = if is_some view.breach then view.columns else view.columns + 1
-
 -- the last stretch of a process's lane
-abbrev pub end_of : View → ℕ → Option Mark
-end_of view p = option_map (λ s. mark.Stretch s (lane_of view.lanes p) (right_of view)) (slice_get view.ends p)
+abbrev pub end_text : View → ℕ → Option Stretch → List ℕ
+end_text view p None = []
+end_text view p (Some s) = stretch_text s (place_at view s.since p) view.right
 
 -- where a cut crosses a lane: at a column, a little to the left for one instance or another
 abbrev pub cut_x : CutMark → ℕ → ℕ
 cut_x c p = x_of (slice_index c.columns p) - 3 * (c.inst % 4)
 
+abbrev pub crossing_text : ℕ → ℕ → List ℕ
+crossing_text x y = concat (decimal x ∷ codes "," ∷ decimal (y - 15) ∷ codes " " ∷ decimal x ∷ codes "," ∷ decimal (y + 15) ∷ codes " " ∷ [])
+
 -- the marks of a process's lane: its last stretch, where a cut crosses it, or its name
 abbrev pub lane_mark : Thread → View → ℕ → List ℕ
-lane_mark thread.Ends view p = drawn (end_of view p)
-lane_mark (thread.Cut c) view p = mark_text (mark.Crossing (cut_x c p) (lane_of view.lanes p))
+lane_mark thread.Ends view p = end_text view p (slice_get view.ends p)
+lane_mark (thread.Cut c) view p = crossing_text (cut_x c p) (y_of (lane_of view.lanes p))
 lane_mark thread.Names view p =
-    concat (codes "<text class='name' x='124' y='" ∷ decimal (y_of (lane_of view.lanes p)) ∷ codes "' dy='4'>" ∷ name_text view.names p ∷ codes "</text>\n" ∷ [])
+    concat (codes "<text class='name' x='124' y='" ∷ decimal (y_of (lane_of view.lanes p)) ∷ codes "' dy='4'>" ∷ []) ++ (name_text view.names p ++ codes "</text>\n")
 
 -- so of all lanes
 abbrev pub lanes_text : Thread → View → List ℕ
@@ -121,8 +136,8 @@ abbrev pub breach_text : View → List ℕ
 breach_text view = broken_text view view.breach
 
 -- which rule it breaks, above the lanes
-abbrev pub rule_of : View → Option Mark
-rule_of view = option_map (λ b. mark.Rule b.rule view.columns) view.breach
+abbrev pub rule_of : View → Option Word
+rule_of view = option_map (λ b. record { x = x_of view.columns; y = 34; saying = say.Rule b.rule }) view.breach
 
 -- the lanes of a picture, its cuts, arrows, and over them what shows each row at its place
 abbrev pub marks_text : View → List ℕ
@@ -132,7 +147,7 @@ marks_text view =
 
 -- the legend of these marks, below this height
 abbrev pub legend_text : List Sign → ℕ → List ℕ
-legend_text signs top = flat_map mark_text (legend_from top 0 signs)
+legend_text signs top = legend_from top 0 signs
 
 -- over them its words, the legend of the marks that it has, and where the line of text begins
 abbrev pub words_text : View → List ℕ

@@ -1,14 +1,13 @@
 -- The legend of a picture: of the marks that it has, and of no others.
-use Rattle.std.specs.Prelude.{ℕ, ◌+◌, ◌*◌, ◌/◌, ◌%◌, ◌||◌, is_some, filter, Bool, true, false, List, [], ◌∷◌}
+use Rattle.std.specs.Prelude.{ℕ, ◌+◌, ◌*◌, ◌/◌, ◌%◌, ◌||◌, is_some, filter, Bool, true, false, List, [], ◌∷◌, ◌++◌}
 use Rattle.std.specs.List.{list_any}
 use Rattle.kt_spacetime.specs.declared.event.Event.{Event}
 use Rattle.kt_spacetime.specs.declared.event.Event.TheVariants.{Sent, Received, Dropped, Began, Took, Ready, Unwilling, Decided, Failed, Refused}
 use Rattle.kt_picture.specs.declared.legend.Sign.{Sign}
 use Rattle.kt_picture.specs.declared.legend.Sign.TheVariants as sign
 use Rattle.kt_picture.specs.declared.legend.TheConstants.{SIGNS}
-use Rattle.kt_picture.specs.declared.words.Mark.{Mark}
-use Rattle.kt_picture.specs.declared.words.Mark.TheVariants as mark
 use Rattle.kt_picture.specs.declared.window.Shown.{Shown}
+use Rattle.kt_picture.specs.Texts.{line_text}
 use Rattle.kt_picture.specs.View.{View}
 
 -- which rows have which marks
@@ -73,13 +72,13 @@ has_sign view sign.Wrong = is_some view.breach || is_some view.orphan
 has_sign view sign = list_any (row_shows view sign) view.shown
 
 -- the line of a mark at a place of the legend, whose lines come two by two from this height on
-abbrev pub sign_at : ℕ → ℕ → Sign → Mark
-sign_at top place sign = mark.Sign sign (260 * (place % 2)) (top + 18 * (place / 2))
+abbrev pub sign_at : ℕ → ℕ → Sign → List ℕ
+sign_at top place sign = line_text sign (260 * (place % 2)) (top + 18 * (place / 2))
 
 -- so of marks one after another, from a place on
-abbrev pub legend_from : ℕ → ℕ → List Sign → List Mark
+abbrev pub legend_from : ℕ → ℕ → List Sign → List ℕ
 legend_from top place [] = []
-legend_from top place (sign ∷ rest) = sign_at top place sign ∷ legend_from top (place + 1) rest
+legend_from top place (sign ∷ rest) = sign_at top place sign ++ legend_from top (place + 1) rest
 
 -- the marks that a picture has, in their order
 abbrev pub signs_of : View → List Sign

@@ -6,9 +6,8 @@ use Rattle.kt_picture.specs.declared.looks.Look.{Look}
 use Rattle.kt_picture.specs.declared.looks.Look.TheVariants as look
 use Rattle.kt_picture.specs.declared.looks.Outline.{Outline}
 use Rattle.kt_picture.specs.declared.looks.Outline.TheVariants as outline
-use Rattle.kt_picture.specs.declared.looks.Figure.{Figure}
 use Rattle.kt_picture.specs.declared.looks.Path.{Path}
-use Rattle.kt_picture.specs.declared.looks.Spot.{Spot}
+use Rattle.kt_picture.specs.declared.looks.Place.{Place}
 
 -- the class of a mark, as the style sheet names it
 abbrev pub class_text : Look → List ℕ
@@ -33,21 +32,12 @@ class_text look.Open = codes "f"
 class_text look.Full = codes "f full"
 class_text look.Cut = codes "cut"
 
--- the same in an instance's colour, one of six, or in none
-abbrev pub paint_text : Look → Option ℕ → List ℕ
-paint_text look None = class_text look
-paint_text look (Some inst) = class_text look ++ (codes " c" ++ decimal (inst % 6))
-
 -- where a column and a lane are, in units of the picture
 abbrev pub x_of : ℕ → ℕ
 x_of column = 136 + 26 * column
 
 abbrev pub y_of : ℕ → ℕ
 y_of lane = 90 + 64 * lane
-
--- where a column crosses a lane
-abbrev pub place_text : ℕ → ℕ → List ℕ
-place_text column lane = concat (decimal (x_of column) ∷ codes " " ∷ decimal (y_of lane) ∷ [])
 
 -- the outline of a mark: of a checkpoint, of a rollback, which points back, and of a decision it is crossed after an abort
 abbrev pub outline_text : Outline → List ℕ
@@ -67,22 +57,24 @@ outline_text (outline.Diamond false) = codes "m0 -8l8 8l-8 8l-8 -8z"
 outline_text (outline.Diamond true) = codes "m0 -8l8 8l-8 8l-8 -8zm-4 4l8 8"
 outline_text (outline.Way true) = codes "l9 11"
 outline_text (outline.Way false) = codes "l9 -11"
-outline_text (outline.To to) = codes "L" ++ place_text to.column to.lane
+outline_text (outline.To to) = concat (codes "L" ∷ decimal to.x ∷ codes " " ∷ decimal to.y ∷ [])
+outline_text (outline.Along column) = codes "H" ++ decimal (x_of column)
 
--- a figure at a place
+-- what is drawn from a place on, in an instance's colour, one of six, or in none
+abbrev pub drawn_path : Place → Look → Option ℕ → Outline → List ℕ
+drawn_path from look None outline = concat (
+    codes "<path class='" ∷ class_text look ∷ codes "' d='M" ∷ decimal from.x ∷ codes " " ∷ decimal from.y ∷ outline_text outline ∷ codes "'/>" ∷ [])
+drawn_path from look (Some inst) outline = concat (
+    codes "<path class='" ∷ class_text look ∷ codes " c" ∷ decimal (inst % 6) ∷ codes "' d='M" ∷ decimal from.x ∷ codes " " ∷ decimal from.y
+    ∷ outline_text outline ∷ codes "'/>" ∷ [])
+
 abbrev pub path_text : Path → List ℕ
-path_text path = concat (
-    codes "<path class='" ∷ paint_text path.figure.paint.look path.figure.paint.inst ∷ codes "' d='M" ∷ place_text path.from.column path.from.lane
-    ∷ outline_text path.figure.outline ∷ codes "'/>" ∷ [])
+path_text path = drawn_path path.from path.look path.inst path.outline
 
--- a shape of a class, in an instance's colour or in none
-abbrev pub shape : Look → Option ℕ → Outline → Figure
-shape look inst outline = record { paint = record { look = look; inst = inst }; outline = outline }
+abbrev pub path_at : Place → Look → Option ℕ → Outline → Path
+path_at from look inst outline = record { from = from; look = look; inst = inst; outline = outline }
 
 -- where a word stands: in one of four lines between two lanes, the next column's in the next line, so that no two words
 -- cover each other
 abbrev pub word_y : ℕ → Bool → ℕ → ℕ
 word_y lane below column = (if below then y_of lane + 20 else y_of lane - 44) + 10 * (column % 4)
-
-abbrev pub spot_text : Spot → List ℕ
-spot_text s = concat (codes "x='" ∷ decimal (x_of s.at.column) ∷ codes "' y='" ∷ decimal (word_y s.at.lane s.below s.at.column) ∷ codes "' dx='4" ∷ [])

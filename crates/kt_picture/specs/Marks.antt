@@ -1,34 +1,28 @@
 -- Which marks show a row.
-use Rattle.std.specs.Prelude.{ℕ, ℤ, ◌-◌, ◌%◌, ◌==◌, ◌||◌, nat_lt, nat_le, is_some, slice_get, if◌then◌else◌, Bool, true, false, not, Option, Some, None}
+use Rattle.std.specs.Prelude.{ℕ, ℤ, ◌-◌, ◌%◌, ◌==◌, ◌||◌, min, nat_lt, nat_le, is_some, slice_get, if◌then◌else◌, Bool, true, false, not, Option, Some, None}
 use Rattle.kt_spacetime.specs.declared.event.Event.{Event}
 use Rattle.kt_spacetime.specs.declared.event.Event.TheVariants.{Sent, Received, Dropped, Began, Took, Ready, Unwilling, Decided, Closed, Failed, Refused}
 use Rattle.kt_spacetime.specs.Events.{process_of}
-use Rattle.kt_picture.specs.declared.looks.Figure.{Figure}
 use Rattle.kt_picture.specs.declared.looks.Look.{Look}
 use Rattle.kt_picture.specs.declared.looks.Look.TheVariants as look
 use Rattle.kt_picture.specs.declared.looks.Outline.TheVariants as outline
 use Rattle.kt_picture.specs.declared.looks.Path.{Path}
 use Rattle.kt_picture.specs.declared.looks.Place.{Place}
-use Rattle.kt_picture.specs.declared.words.Mark.{Mark}
-use Rattle.kt_picture.specs.declared.words.Mark.TheVariants as mark
 use Rattle.kt_picture.specs.declared.window.Shown.{Shown}
 use Rattle.kt_picture.specs.declared.words.Saying.{Saying}
 use Rattle.kt_picture.specs.declared.words.Saying.TheVariants as say
+use Rattle.kt_picture.specs.declared.words.Word.{Word}
 use Rattle.kt_picture.specs.Lanes.{lane_of}
-use Rattle.kt_picture.specs.Looks.{shape}
+use Rattle.kt_picture.specs.Looks.{path_at, word_y, x_of, y_of}
 use Rattle.kt_picture.specs.View.{View}
 
 -- where a column crosses the lane of a process
 abbrev pub place_at : View → ℕ → ℕ → Place
-place_at view column p = record { column = column; lane = lane_of view.lanes p }
+place_at view column p = record { x = x_of column; y = y_of (lane_of view.lanes p) }
 
 -- the place of a row
 abbrev pub place_of : View → Shown → Place
 place_of view s = place_at view s.column (process_of s.event)
-
--- the stretch of a process's lane up to a row
-abbrev pub stretch_of : View → Shown → Mark
-stretch_of view s = mark.Stretch s.stretch (lane_of view.lanes (process_of s.event)) s.column
 
 -- how an arrow looks whose send is undone, whose receive is, which is the orphan that stands out, which is in a chain
 abbrev pub arrow_look : Bool → Bool → Bool → Bool → Look
@@ -66,19 +60,16 @@ column_of before msg = msg - before
 
 -- where an arrow begins: there, but not behind its head
 abbrev pub tail_of : ℕ → ℕ → ℕ → ℕ
-tail_of before msg column = if nat_lt column (column_of before msg) then column else column_of before msg
+tail_of before msg column = min column (column_of before msg)
 
 -- an arrow from where a message was sent to where it was taken
 abbrev pub arrow : View → Shown → ℕ → ℕ → Path
-arrow view s from msg = record {
-  from = place_at view (tail_of view.before msg s.column) from;
-  figure = shape (look_of view s msg) (colour_for (look_of view s msg) (view.link msg)) (outline.To (place_of view s));
-}
+arrow view s from msg =
+    path_at (place_at view (tail_of view.before msg s.column) from) (look_of view s msg) (colour_for (look_of view s msg) (view.link msg)) (outline.To (place_of view s))
 
 -- the short arrow of a message in transit, which points to its receiver's lane
 abbrev pub short_arrow : View → Shown → ℕ → ℕ → Path
-short_arrow view s p to =
-    record { from = place_of view s; figure = shape look.Way None (outline.Way (nat_lt (lane_of view.lanes p) (lane_of view.lanes to))) }
+short_arrow view s p to = path_at (place_of view s) look.Way None (outline.Way (nat_lt (lane_of view.lanes p) (lane_of view.lanes to)))
 
 -- the arrow of a row that takes a message, or that sends one which is in transit at the window's end
 abbrev pub arrow_at : View → Shown → Event → Option Path
@@ -109,27 +100,26 @@ abbrev pub is_crossed : Option Bool → Bool
 is_crossed (Some commit) = not commit
 is_crossed None = false
 
--- the figure of a row
-abbrev pub figure_at : Shown → Event → Figure
-figure_at s (Sent p to body) = shape (dot_look s.is_undone) None outline.Dot
-figure_at s (Received p from msg) = shape (tick_look (s.is_undone || s.is_taken_back)) None outline.Tick
-figure_at s (Dropped p from msg) = shape look.Dropped None outline.Cross
-figure_at s (Began p inst kind) = shape look.Bar (Some inst) outline.Beginning
-figure_at s (Took p inst) = shape (fill_look s.decision) (Some inst) (outline.Square (is_crossed s.decision))
-figure_at s (Ready p inst) = shape (fill_look s.decision) (Some inst) (outline.Triangle (is_crossed s.decision))
-figure_at s (Unwilling p inst cause) = shape look.Refused None outline.Ban
-figure_at s (Decided p inst commit) = shape (fill_look (Some commit)) (Some inst) (outline.Diamond (not commit))
-figure_at s (Closed p inst) = shape look.Open (Some inst) outline.Ending
-figure_at s (Failed p) = shape look.Failed None outline.Bolt
-figure_at s (Refused p verb cause) = shape look.Refused None outline.Ban
-
 -- what shows a row at its place
+abbrev pub figure_at : Place → Shown → Event → Path
+figure_at at s (Sent p to body) = path_at at (dot_look s.is_undone) None outline.Dot
+figure_at at s (Received p from msg) = path_at at (tick_look (s.is_undone || s.is_taken_back)) None outline.Tick
+figure_at at s (Dropped p from msg) = path_at at look.Dropped None outline.Cross
+figure_at at s (Began p inst kind) = path_at at look.Bar (Some inst) outline.Beginning
+figure_at at s (Took p inst) = path_at at (fill_look s.decision) (Some inst) (outline.Square (is_crossed s.decision))
+figure_at at s (Ready p inst) = path_at at (fill_look s.decision) (Some inst) (outline.Triangle (is_crossed s.decision))
+figure_at at s (Unwilling p inst cause) = path_at at look.Refused None outline.Ban
+figure_at at s (Decided p inst commit) = path_at at (fill_look (Some commit)) (Some inst) (outline.Diamond (not commit))
+figure_at at s (Closed p inst) = path_at at look.Open (Some inst) outline.Ending
+figure_at at s (Failed p) = path_at at look.Failed None outline.Bolt
+figure_at at s (Refused p verb cause) = path_at at look.Refused None outline.Ban
+
 abbrev pub figure_of : View → Shown → Path
-figure_of view s = record { from = place_of view s; figure = figure_at s s.event }
+figure_of view s = figure_at (place_of view s) s s.event
 
 -- the number of the row of each fifth column
-abbrev pub number_at : ℕ → ℕ → Option Mark
-number_at row column = if column % 5 == 0 then Some (mark.RowNumber row column) else None
+abbrev pub number_at : ℕ → ℕ → Option Word
+number_at row column = if column % 5 == 0 then Some (record { x = x_of column; y = 20; saying = say.Column row }) else None
 
 -- the body of a message that a row sends
 abbrev pub body_sent : Event → Option ℤ
@@ -145,20 +135,24 @@ abbrev pub body_of : View → ℕ → Option ℤ
 body_of view msg = if nat_lt view.before msg then body_shown (slice_get view.shown (msg - view.before - 1)) else None
 
 -- a word below or above the place of a row
-abbrev pub word : View → Shown → Bool → Saying → Mark
-word view s below saying = mark.Word (record { spot = record { at = place_of view s; below = below }; saying = saying })
+abbrev pub word : View → Shown → Bool → Saying → Word
+word view s below saying = record {
+  x = x_of s.column;
+  y = word_y (lane_of view.lanes (process_of s.event)) below s.column;
+  saying = saying;
+}
 
 -- the word beside the arrow of a message between a process and another one, on the other one's side, where the window is so
 -- short that it is legible
-abbrev pub label : View → Shown → ℕ → ℕ → ℕ → Option ℤ → Option Mark
-label view s p other msg body =
-    if nat_le view.columns 64 then Some (word view s (nat_lt (lane_of view.lanes p) (lane_of view.lanes other)) (say.Message msg body)) else None
+abbrev pub label : View → Shown → ℕ → ℕ → Saying → Option Word
+label view s p other saying =
+    if nat_le view.columns 64 then Some (word view s (nat_lt (lane_of view.lanes p) (lane_of view.lanes other)) saying) else None
 
 -- the word beside the mark of a row, or beside its arrow
-abbrev pub word_at : View → Shown → Event → Option Mark
-word_at view s (Sent p to body) = if s.is_in_transit then label view s p to s.row (Some body) else None
-word_at view s (Received p from msg) = label view s p from msg (body_of view msg)
-word_at view s (Dropped p from msg) = label view s p from msg (body_of view msg)
+abbrev pub word_at : View → Shown → Event → Option Word
+word_at view s (Sent p to body) = if s.is_in_transit then label view s p to (say.Message s.row (Some body)) else None
+word_at view s (Received p from msg) = label view s p from (say.Message msg (body_of view msg))
+word_at view s (Dropped p from msg) = label view s p from (say.Message msg (body_of view msg))
 word_at view s (Began p inst kind) = Some (word view s false (say.Instance kind inst))
 word_at view s (Decided p inst commit) = Some (word view s true (say.Row s.row))
 word_at view s (Unwilling p inst cause) = Some (word view s true (say.Why cause))

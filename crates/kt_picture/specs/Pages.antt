@@ -16,6 +16,7 @@ view_in page = record {
   lanes = page.lanes.now;
   before = page.sheet.now.before;
   columns = page.columns;
+  right = page.right;
   shown = page.sheet.now.shown.items;
   cuts = page.sheet.now.cuts.items;
   ends = page.sheet.now.ends.items;

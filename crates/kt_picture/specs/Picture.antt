@@ -2,7 +2,7 @@
 use Rattle.std.specs.Prelude.{ℕ, ◌+◌, Option, List, ◌++◌, length, drop}
 use Rattle.kt_spacetime.specs.declared.event.Event.{Event}
 use Rattle.kt_spacetime.specs.declared.certificate.Certificate.{Certificate}
-use Rattle.kt_picture.specs.declared.breach.Breach.{Breach}
+use Rattle.kt_picture.specs.declared.window.Breach.{Breach}
 use Rattle.kt_picture.specs.Breach.{breach_columns, breach_rows}
 use Rattle.kt_picture.specs.Evidence.{link_of, reason_of}
 use Rattle.kt_picture.specs.Lanes.{lanes_in}
@@ -21,6 +21,7 @@ view_of names rows before breach certificates orphan = record {
   lanes = lanes_in (rows ++ breach_rows breach);
   before = before;
   columns = columns_of rows before breach;
+  right = length (drop before rows) + 1;
   shown = shown_of rows before;
   cuts = cuts_of rows before;
   ends = ends_of rows before;

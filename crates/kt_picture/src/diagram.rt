@@ -13,13 +13,12 @@ ghost use Rattle.kt_picture.specs.Breach.{breach_rows};
 ghost use Rattle.kt_picture.specs.Lanes.{is_named};
 ghost use Rattle.kt_picture.specs.Picture.{picture_of};
 
-use crate::breach::Breach;
 use crate::entry::{Entry, follow, message_of, shown_rows, taken_by};
 use crate::evidence::{Evidence, links_of};
 use crate::lanes::{Lanes, with_named};
 use crate::layers::text_of;
 use crate::rows::Page;
-use crate::window::{CutMark, Known, Shown, Stretch, lane_ends, push_cut, push_item};
+use crate::window::{Breach, CutMark, Known, Shown, Stretch, lane_ends, push_cut, push_item};
 use kt_base::{Memory, MsgNo, ProcSet};
 use kt_plan::Names;
 use kt_rules::LegalFault;
@@ -172,6 +171,7 @@ impl Sheet {
             lanes: &lanes,
             sheet: self,
             columns: self.columns + u32::from(breach.is_some()),
+            right: self.columns + 1,
             breach,
             certificates: evidence.certificates,
             orphan: evidence.orphan,

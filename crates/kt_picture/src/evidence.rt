@@ -8,6 +8,7 @@ ghost use Rattle.kt_picture.specs.Links.{NotesMore, link_at};
 ghost use Rattle.kt_picture.specs.Pages.{reason_in};
 
 use crate::rows::Page;
+use crate::words::push_name;
 use kt_base::{InstNo, Memory, MsgNo, ProcNo};
 use kt_spacetime::{Certificate, Chain, Event};
 use std::alloc::Global;
@@ -101,9 +102,10 @@ fn push_ends(text: &mut String, page: &Page<'_>, row: Event) -> Result<(), Memor
 {
     match row {
         Event::Sent { p, to, .. } => {
-            let from = page.name(p);
-            let to = page.name(to);
-            Ok(write!(text, ":{from}&gt;{to}")?)
+            write!(text, ":")?;
+            push_name(text, page.names, p)?;
+            write!(text, "&gt;")?;
+            push_name(text, page.names, to)
         }
         _ => Ok(()),
     }

@@ -3,16 +3,16 @@
 ghost use Rattle.std.specs.Prelude.{◌≡◌, ◌≤◌, ◌<◌, ◌^◌, ◌+◌, ◌++◌, IfOk, OnOk, length, string_bytes};
 ghost use Rattle.std.specs.List.{flat_map};
 ghost use Rattle.kt_picture.specs.Escaping.{escaped, escaped_byte};
-ghost use Rattle.kt_picture.specs.Layers.{arrow_text, breach_text, cut_text, end_of, lane_mark, lanes_text, marks_text, opening, picture_text, row_mark, rows_text, rule_of, titled_text, top_of, width_of, words_text};
+ghost use Rattle.kt_picture.specs.Layers.{arrow_text, breach_text, cut_text, lane_mark, lanes_text, marks_text, opening, picture_text, row_mark, rows_text, rule_of, stretch_text, titled_text, top_of, width_of, words_text};
 ghost use Rattle.kt_picture.specs.Legend.{signs_of};
 ghost use Rattle.kt_picture.specs.Pages.{view_in};
 
 use crate::evidence::push_reason;
 use crate::legend::{Sign, push_legend, signs_of};
-use crate::looks::{HEADS, Path, STYLE, x_of, y_of};
-use crate::rows::{Page, arrow_at, figure_of, number_at, stretch_of, word_at};
-use crate::window::{CutMark, Shown};
-use crate::words::{Mark, fields_of, push};
+use crate::looks::{HEADS, Look, Outline, Path, Place, STYLE, x_of, y_of};
+use crate::rows::{Page, arrow_at, figure_of, number_at, word_at};
+use crate::window::{CutMark, Shown, Stretch};
+use crate::words::{Saying, Word, fields_of, push_name, push_word};
 use kt_base::{Memory, ProcNo};
 use std::alloc::Global;
 use std::fmt::Write;
@@ -79,7 +79,6 @@ fn push_marks(text: &mut String, page: &Page<'_>) -> Result<(), Memory>
 
 // Gathers the words of a picture with these lines of the legend, up to what is said below.
 fn push_words(text: &mut String, page: &Page<'_>, signs: &[Sign]) -> Result<(), Memory>
-    requires columns { page.now.columns < 2 ^ 25 }
     requires signs { signs.now ≡ signs_of (view_in page.now) }
     requires few { length signs.now ≤ 13 }
     ensures { OnOk result (string_bytes text.new ≡ string_bytes text.old ++ words_text (view_in page.now)) }
@@ -87,7 +86,7 @@ fn push_words(text: &mut String, page: &Page<'_>, signs: &[Sign]) -> Result<(), 
     writeln!(text, "</g>\n<g fill='#1d232b'>")?;
     push_lanes(text, page, &Thread::Names)?;
     push_rows(text, page, Layer::Words)?;
-    push(text, rule_of(page))?;
+    push_word(text, rule_of(page))?;
     push_legend(text, signs, top_of(page))?;
     let y = y_of(page.lanes.count());
     Ok(write!(text, "<text x='12' y='{y}' dy='10'>")?)
@@ -125,12 +124,15 @@ fn push_row(text: &mut String, page: &Page<'_>, layer: Layer, s: &Shown) -> Resu
     ensures { OnOk result (string_bytes text.new ≡ string_bytes text.old ++ row_mark layer (view_in page.now) s.now) }
 {
     match layer {
-        Layer::Stretches => push(text, Some(stretch_of(page, s))),
+        Layer::Stretches => {
+            let from = page.place(s.stretch.since, s.event.process());
+            push_stretch(text, s.stretch, from, s.column)
+        }
         Layer::Arrows => push_arrow(text, page, s),
         Layer::Figures => push_path(text, page, s, figure_of(page, s)),
         Layer::Words => {
-            push(text, number_at(s))?;
-            push(text, word_at(page, s, s.event))
+            push_word(text, number_at(s))?;
+            push_word(text, word_at(page, s, s.event))
         }
     }
 }
@@ -142,6 +144,21 @@ fn push_arrow(text: &mut String, page: &Page<'_>, s: &Shown) -> Result<(), Memor
     match arrow_at(page, s, s.event) {
         Some(arrow) => push_path(text, page, s, arrow),
         None => Ok(()),
+    }
+}
+
+// Gathers a stretch of a lane from this place on to a column, over a bar while its process is in an instance.
+fn push_stretch(text: &mut String, s: Stretch, from: Place, until: u32) -> Result<(), Memory>
+    ensures { OnOk result (string_bytes text.new ≡ string_bytes text.old ++ stretch_text s from until) }
+{
+    let look = if s.up { Look::Up } else { Look::Down };
+    let lane = Path::at(from, look, None, Outline::Along(until));
+    match s.open_in {
+        Some(inst) => {
+            let bar = Path::at(from, Look::Bar, Some(inst.get()), Outline::Along(until));
+            Ok(writeln!(text, "{bar}\n{lane}")?)
+        }
+        None => Ok(writeln!(text, "{lane}")?),
     }
 }
 
@@ -167,7 +184,6 @@ pub(crate) enum Thread {
 
 // Gathers the marks of all lanes.
 fn push_lanes(text: &mut String, page: &Page<'_>, thread: &Thread) -> Result<(), Memory>
-    requires { page.now.columns < 2 ^ 25 }
     ensures { OnOk result (string_bytes text.new ≡ string_bytes text.old ++ lanes_text thread.now (view_in page.now)) }
 {
     for p in page.lanes.processes() {
@@ -178,42 +194,30 @@ fn push_lanes(text: &mut String, page: &Page<'_>, thread: &Thread) -> Result<(),
 
 // Gathers the marks of a process's lane.
 fn push_lane(text: &mut String, page: &Page<'_>, thread: &Thread, p: ProcNo) -> Result<(), Memory>
-    requires { page.now.columns < 2 ^ 25 }
     ensures { OnOk result (string_bytes text.new ≡ string_bytes text.old ++ lane_mark thread.now (view_in page.now) p) }
 {
-    let lane = page.lanes.of(p);
+    let y = y_of(page.lanes.of(p));
     match thread {
-        Thread::Ends => push(text, end_of(page, p)),
+        Thread::Ends => match page.sheet.ends.get(p.index()) {
+            Some(end) => push_stretch(text, *end, page.place(end.since, p), page.right),
+            None => Ok(()),
+        },
         Thread::Cut(cut) => {
             // Cuts of instances that follow each other lie side by side.
             let aside = 3 * (u64::from(cut.inst.get()) % 4);
             let x = x_of(cut.columns[p.index()]) - aside;
-            push(text, Some(Mark::Crossing(x, lane)))
+            Ok(write!(text, "{x},{} {x},{} ", y - 15, y + 15)?)
         }
         Thread::Names => {
-            let name = page.name(p);
-            let y = y_of(lane);
-            Ok(writeln!(
-                text,
-                "<text class='name' x='124' y='{y}' dy='4'>{name}</text>"
-            )?)
+            write!(text, "<text class='name' x='124' y='{y}' dy='4'>")?;
+            push_name(text, page.names, p)?;
+            Ok(writeln!(text, "</text>")?)
         }
     }
 }
 
-// The last stretch of a process's lane: to the row that breaks a rule, else to the right end.
-fn end_of(page: &Page<'_>, p: ProcNo) -> Option<Mark>
-    requires { page.now.columns < 2 ^ 25 }
-    ensures { result ≡ end_of (view_in page.now) p }
-{
-    let end = page.sheet.ends.get(p.index())?;
-    let until = page.columns + u32::from(page.breach.is_none());
-    Some(Mark::Stretch(*end, page.lanes.of(p), until))
-}
-
 // Gathers the permanent cuts.
 fn push_cuts(text: &mut String, page: &Page<'_>) -> Result<(), Memory>
-    requires { page.now.columns < 2 ^ 25 }
     ensures { OnOk result (string_bytes text.new ≡ string_bytes text.old
         ++ flat_map (cut_text (view_in page.now)) page.now.sheet.now.cuts.items) }
 {
@@ -225,7 +229,6 @@ fn push_cuts(text: &mut String, page: &Page<'_>) -> Result<(), Memory>
 
 // Gathers a permanent cut that differs from the one before.
 fn push_cut(text: &mut String, page: &Page<'_>, cut: &CutMark) -> Result<(), Memory>
-    requires { page.now.columns < 2 ^ 25 }
     ensures { OnOk result (string_bytes text.new ≡ string_bytes text.old ++ cut_text (view_in page.now) cut.now) }
 {
     if !cut.is_new {
@@ -250,17 +253,21 @@ fn push_breach(text: &mut String, page: &Page<'_>) -> Result<(), Memory>
     };
     let s = breach.shown(page.sheet.before + page.columns, page.columns);
     write!(text, "<g class='wrong'>")?;
-    push_arrow(text, page, &s)?;
-    push_path(text, page, &s, figure_of(page, &s))?;
+    push_row(text, page, Layer::Arrows, &s)?;
+    push_row(text, page, Layer::Figures, &s)?;
     Ok(writeln!(text, "</g>")?)
 }
 
 // Which rule it breaks, above the lanes.
-fn rule_of(page: &Page<'_>) -> Option<Mark>
+fn rule_of(page: &Page<'_>) -> Option<Word>
     ensures { result ≡ rule_of (view_in page.now) }
 {
+    let x = x_of(page.columns);
     match page.breach {
-        Some(breach) => Some(Mark::Rule(breach.rule, page.columns)),
+        Some(breach) => {
+            let saying = Saying::Rule(breach.rule);
+            Some(Word { x, y: 34, saying })
+        }
         None => None,
     }
 }

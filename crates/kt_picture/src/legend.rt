@@ -1,20 +1,19 @@
 //! The legend of a picture: of the marks that it has, and of no others.
 
-ghost use Rattle.std.specs.Prelude.{◌≡◌, ◌≤◌, ◌<◌, ◌^◌, ◌++◌, IfOk, OnOk, Some, None, length, string_bytes};
+ghost use Rattle.std.specs.Prelude.{◌≡◌, ◌≤◌, ◌<◌, ◌^◌, ◌++◌, IfOk, OnOk, length, string_bytes};
 ghost use Rattle.std.specs.List.{list_any};
 ghost use Rattle.kt_picture.specs.Layers.{legend_text};
 ghost use Rattle.kt_picture.specs.Legend.{row_shows, has_sign, signs_of};
 ghost use Rattle.kt_picture.specs.Pages.{view_in};
-ghost use Rattle.kt_picture.specs.Signs.{sign_figure, sign_words};
+ghost use Rattle.kt_picture.specs.Signs.{sign_path, sign_words};
 
-use crate::looks::{Figure, Look, Outline, shape};
+use crate::looks::{Look, Outline, Path, Place};
 use crate::rows::Page;
 use crate::window::{CutMark, Shown};
-use crate::words::{Mark, push};
 use kt_base::Memory;
 use kt_spacetime::Event;
 use std::alloc::Global;
-use std::fmt;
+use std::fmt::Write;
 
 /// A mark of the legend.
 #[derive(Clone, Copy)]
@@ -54,23 +53,39 @@ pub(crate) const SIGNS: [Sign; 13] = [
 
 impl Sign {
     // How it looks.
-    fn figure(self) -> Figure
-        ensures { result ≡ sign_figure self }
+    fn path(self) -> Path
+        ensures { result ≡ sign_path self }
     {
+        let at = Place { x: 24, y: 0 };
         match self {
-            Sign::Message => shape(Look::Message, None, Outline::Line),
-            Sign::Undone => shape(Look::Unsent, None, Outline::Line),
-            Sign::Chain => shape(Look::Linked, Some(1), Outline::Line),
-            Sign::Transit => shape(Look::Way, None, Outline::Line),
-            Sign::Dropped => shape(Look::Dropped, None, Outline::Cross),
-            Sign::Instance => shape(Look::Bar, Some(1), Outline::Line),
-            Sign::Checkpoint => shape(Look::Full, Some(1), Outline::Square { crossed: false }),
-            Sign::Rollback => shape(Look::Full, Some(1), Outline::Triangle { crossed: false }),
-            Sign::Decision => shape(Look::Full, Some(1), Outline::Diamond { crossed: false }),
-            Sign::Cut => shape(Look::Cut, Some(1), Outline::Line),
-            Sign::Failure => shape(Look::Failed, None, Outline::Bolt),
-            Sign::Refusal => shape(Look::Refused, None, Outline::Ban),
-            Sign::Wrong => shape(Look::Orphan, None, Outline::Line),
+            Sign::Message => Path::at(at, Look::Message, None, Outline::Line),
+            Sign::Undone => Path::at(at, Look::Unsent, None, Outline::Line),
+            Sign::Chain => Path::at(at, Look::Linked, Some(1), Outline::Line),
+            Sign::Transit => Path::at(at, Look::Way, None, Outline::Line),
+            Sign::Dropped => Path::at(at, Look::Dropped, None, Outline::Cross),
+            Sign::Instance => Path::at(at, Look::Bar, Some(1), Outline::Line),
+            Sign::Checkpoint => Path::at(
+                at,
+                Look::Full,
+                Some(1),
+                Outline::Square { crossed: false },
+            ),
+            Sign::Rollback => Path::at(
+                at,
+                Look::Full,
+                Some(1),
+                Outline::Triangle { crossed: false },
+            ),
+            Sign::Decision => Path::at(
+                at,
+                Look::Full,
+                Some(1),
+                Outline::Diamond { crossed: false },
+            ),
+            Sign::Cut => Path::at(at, Look::Cut, Some(1), Outline::Line),
+            Sign::Failure => Path::at(at, Look::Failed, None, Outline::Bolt),
+            Sign::Refusal => Path::at(at, Look::Refused, None, Outline::Ban),
+            Sign::Wrong => Path::at(at, Look::Orphan, None, Outline::Line),
         }
     }
 
@@ -93,23 +108,6 @@ impl Sign {
             Sign::Refusal => "unwilling or refused, and why",
             Sign::Wrong => "what breaks a rule, or the orphan",
         }
-    }
-}
-
-impl fmt::Display for Sign {
-    ghost use Rattle.std.specs.Prelude.{Some};
-    ghost use Rattle.kt_picture.specs.Texts.{sign_text};
-
-    ghost output = { λ sign. Some (sign_text sign) };
-
-    fn fmt<W: fmt::Write>(&self, f: &mut fmt::Formatter<W>) -> fmt::Result {
-        let figure = self.figure();
-        write!(
-            f,
-            "<path class='{}' d='M24 0{}'/>",
-            figure.paint, figure.outline
-        )?;
-        write!(f, "<text x='44' y='4'>{}</text>", self.words())
     }
 }
 
@@ -179,7 +177,12 @@ pub(crate) fn push_legend(text: &mut String, signs: &[Sign], top: u64) -> Result
     for (place, sign) in signs.iter().enumerate() {
         let x = 260 * (place as u64 % 2);
         let y = top + 18 * (place as u64 / 2);
-        push(text, Some(Mark::Sign(*sign, x, y)))?;
+        let path = sign.path();
+        let words = sign.words();
+        writeln!(
+            text,
+            "<g transform='translate({x} {y})'>{path}<text x='44' y='4'>{words}</text></g>"
+        )?;
     }
     Ok(())
 }

@@ -3,12 +3,11 @@
 //! **What to change where:** row by row beside a walk, and the whole, `diagram.rt`, as definitions `specs/DiagramOf`;
 //! messages of the window and what becomes of them `entry.rt`, as definitions `specs/Followed`, `specs/Fates`; what each
 //! row shows `window.rt`, as definitions `specs/KnownAtRow`, `specs/Window`; lanes `lanes.rt`; which marks show a row
-//! `rows.rt`, as definitions `specs/Marks`; the marks and the words in them `words.rt`, as definitions `specs/Texts`; how
-//! they look and where they stand `looks.rt`, as definitions `specs/Looks`; layers, and texts of others, `layers.rt`; the
-//! legend `legend.rt`; the row that breaks a rule `breach.rt`; what certificates tell `evidence.rt`.
+//! `rows.rt`, as definitions `specs/Marks`; what words say `words.rt`, as definitions `specs/Texts`; how marks look and
+//! where they stand `looks.rt`, as definitions `specs/Looks`; layers, and texts of others, `layers.rt`; the
+//! legend `legend.rt`; what certificates tell `evidence.rt`.
 #![tactic(auto)]
 
-mod breach;
 mod diagram;
 mod entry;
 mod evidence;
@@ -21,7 +20,6 @@ mod rows;
 mod window;
 mod words;
 
-pub use breach::{Breach, caption};
 pub use diagram::{Diagram, Sheet};
 pub use evidence::Evidence;
 pub use laws::{
@@ -29,3 +27,5 @@ pub use laws::{
     escaped_has_no_mark, joinings_tell_decisions, legend_tells_marks, undone_is_not_live,
     unreceived_is_not_live, words_stand_apart,
 };
+pub use window::Breach;
+pub use words::caption;

@@ -1,7 +1,7 @@
 //! How marks look, and where they stand; the style sheet of a picture, with nothing from outside it.
 
 ghost use Rattle.std.specs.Prelude.{◌≡◌};
-ghost use Rattle.kt_picture.specs.Looks.{shape, x_of, y_of};
+ghost use Rattle.kt_picture.specs.Looks.{path_at, x_of, y_of};
 
 use std::fmt;
 
@@ -77,28 +77,6 @@ impl fmt::Display for Look {
     }
 }
 
-/// How a mark is painted: its class, and the instance whose colour it has, one of six.
-#[derive(Clone, Copy)]
-pub(crate) struct Paint {
-    pub(crate) look: Look,
-    pub(crate) inst: Option<u16>,
-}
-
-impl fmt::Display for Paint {
-    ghost use Rattle.std.specs.Prelude.{Some};
-    ghost use Rattle.kt_picture.specs.Looks.{paint_text};
-
-    ghost output = { λ p. Some (paint_text p.look p.inst) };
-
-    fn fmt<W: fmt::Write>(&self, f: &mut fmt::Formatter<W>) -> fmt::Result {
-        let look = self.look;
-        match self.inst {
-            Some(inst) => write!(f, "{look} c{}", inst % 6),
-            None => write!(f, "{look}"),
-        }
-    }
-}
-
 /// The outline of a mark, which begins at the middle of its place.
 #[derive(Clone, Copy)]
 pub(crate) enum Outline {
@@ -128,6 +106,8 @@ pub(crate) enum Outline {
     Way { down: bool },
     /// The way of a message to where it is taken.
     To(Place),
+    /// Along a lane to a column.
+    Along(u32),
 }
 
 impl fmt::Display for Outline {
@@ -154,45 +134,53 @@ impl fmt::Display for Outline {
             Outline::Diamond { crossed: true } => write!(f, "m0 -8l8 8l-8 8l-8 -8zm-4 4l8 8"),
             Outline::Way { down: true } => write!(f, "l9 11"),
             Outline::Way { down: false } => write!(f, "l9 -11"),
-            Outline::To(to) => write!(f, "L{to}"),
+            Outline::To(Place { x, y }) => write!(f, "L{x} {y}"),
+            Outline::Along(column) => write!(f, "H{}", x_of(column)),
         }
     }
 }
 
-/// What is drawn, and how it is painted.
-#[derive(Clone, Copy)]
-pub(crate) struct Figure {
-    pub(crate) paint: Paint,
-    pub(crate) outline: Outline,
-}
-
-/// A figure at a place.
+/// What is drawn from a place on: its class, the number of the instance whose colour it has, one of six, and its outline.
 #[derive(Clone, Copy)]
 pub(crate) struct Path {
     pub(crate) from: Place,
-    pub(crate) figure: Figure,
+    pub(crate) look: Look,
+    pub(crate) inst: Option<u16>,
+    pub(crate) outline: Outline,
+}
+
+impl Path {
+    /// The path from a place on.
+    pub(crate) fn at(from: Place, look: Look, inst: Option<u16>, outline: Outline) -> Path
+        ensures { result ≡ path_at from look inst outline }
+    {
+        Path {
+            from,
+            look,
+            inst,
+            outline,
+        }
+    }
 }
 
 impl fmt::Display for Path {
     ghost use Rattle.std.specs.Prelude.{Some};
-    ghost use Rattle.kt_picture.specs.Looks.{path_text};
+    ghost use Rattle.kt_picture.specs.Looks.{drawn_path};
 
-    ghost output = { λ path. Some (path_text path) };
+    ghost output = { λ path. Some (drawn_path path.from path.look path.inst path.outline) };
 
     fn fmt<W: fmt::Write>(&self, f: &mut fmt::Formatter<W>) -> fmt::Result {
-        let from = self.from;
-        let paint = self.figure.paint;
-        let outline = self.figure.outline;
-        write!(f, "<path class='{paint}' d='M{from}{outline}'/>")
+        let Place { x, y } = self.from;
+        let look = self.look;
+        let outline = self.outline;
+        match self.inst {
+            Some(inst) => {
+                let colour = inst % 6;
+                write!(f, "<path class='{look} c{colour}' d='M{x} {y}{outline}'/>")
+            }
+            None => write!(f, "<path class='{look}' d='M{x} {y}{outline}'/>"),
+        }
     }
-}
-
-/// A shape of a class, in an instance's colour or in none.
-pub(crate) fn shape(look: Look, inst: Option<u16>, outline: Outline) -> Figure
-    ensures { result ≡ shape look inst outline }
-{
-    let paint = Paint { look, inst };
-    Figure { paint, outline }
 }
 
 /// Where a column is.
@@ -209,48 +197,11 @@ pub(crate) fn y_of(lane: u8) -> u64
     90 + 64 * u64::from(lane)
 }
 
-/// Where a column crosses a lane.
+/// A place, so far from the left and from above, in units of the picture.
 #[derive(Clone, Copy)]
 pub(crate) struct Place {
-    pub(crate) column: u32,
-    pub(crate) lane: u8,
-}
-
-impl fmt::Display for Place {
-    ghost use Rattle.std.specs.Prelude.{Some};
-    ghost use Rattle.kt_picture.specs.Looks.{place_text};
-
-    ghost output = { λ at. Some (place_text at.column at.lane) };
-
-    fn fmt<W: fmt::Write>(&self, f: &mut fmt::Formatter<W>) -> fmt::Result {
-        write!(f, "{} {}", x_of(self.column), y_of(self.lane))
-    }
-}
-
-/// Where a word stands: at a place, below or above its lane.
-#[derive(Clone, Copy)]
-pub(crate) struct Spot {
-    pub(crate) at: Place,
-    pub(crate) below: bool,
-}
-
-impl fmt::Display for Spot {
-    ghost use Rattle.std.specs.Prelude.{Some};
-    ghost use Rattle.kt_picture.specs.Looks.{spot_text};
-
-    ghost output = { λ s. Some (spot_text s) };
-
-    fn fmt<W: fmt::Write>(&self, f: &mut fmt::Formatter<W>) -> fmt::Result {
-        let Place { column, lane } = self.at;
-        // In one of four lines between two lanes, the next column's in the next line.
-        let first = if self.below {
-            y_of(lane) + 20
-        } else {
-            y_of(lane) - 44
-        };
-        let y = first + 10 * (u64::from(column) % 4);
-        write!(f, "x='{}' y='{y}' dx='4", x_of(column))
-    }
+    pub(crate) x: u64,
+    pub(crate) y: u64,
 }
 
 /// How marks look, and what differs where a dark page is asked for.

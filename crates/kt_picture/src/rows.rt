@@ -2,15 +2,14 @@
 
 ghost use Rattle.std.specs.Prelude.{◌≡◌};
 ghost use Rattle.kt_picture.specs.Links.{link_at};
-ghost use Rattle.kt_picture.specs.Marks.{place_of, stretch_of, arrow_look, colour_for, tail_of, arrow, arrow_at, figure_at, figure_of, body_of, label, word, word_at, number_at};
+ghost use Rattle.kt_picture.specs.Marks.{place_at, arrow_look, colour_for, arrow, arrow_at, figure_at, figure_of, body_of, label, word, word_at, number_at};
 ghost use Rattle.kt_picture.specs.Pages.{view_in};
 
-use crate::breach::Breach;
 use crate::diagram::Sheet;
 use crate::lanes::Lanes;
-use crate::looks::{Figure, Look, Outline, Path, Place, Spot, shape};
-use crate::window::Shown;
-use crate::words::{Mark, Name, Saying, Word};
+use crate::looks::{Look, Outline, Path, Place, x_of, y_of};
+use crate::window::{Breach, Shown};
+use crate::words::{Saying, Word};
 use kt_base::{InstNo, MsgNo, ProcNo};
 use kt_plan::Names;
 use kt_spacetime::{Certificate, Event};
@@ -25,6 +24,8 @@ pub(crate) struct Page<'a> {
     pub(crate) sheet: &'a Sheet,
     /// How many columns there are.
     pub(crate) columns: u32,
+    /// The column where lanes end: behind the window.
+    pub(crate) right: u32,
     /// The row that comes after the window and breaks a rule.
     pub(crate) breach: Option<Breach>,
     pub(crate) certificates: &'a [Certificate],
@@ -36,38 +37,21 @@ pub(crate) struct Page<'a> {
 }
 
 impl<'a> Page<'a> {
-    /// The name of a process.
-    pub(crate) fn name(&self, p: ProcNo) -> Name<'a>
-        ensures names { result.names.now ≡ self.now.names.now }
-        ensures process { result.p ≡ p }
-    {
-        let names = self.names;
-        Name { names, p }
-    }
-
     /// The instance whose chain has a message.
     pub(crate) fn link(&self, msg: MsgNo) -> Option<InstNo>
         ensures { result ≡ link_at self.now.links.now msg }
     {
         *self.links.get(msg.index())?
     }
-}
 
-/// The place of a row.
-pub(crate) fn place_of(page: &Page<'_>, s: &Shown) -> Place
-    ensures { result ≡ place_of (view_in page.now) s.now }
-{
-    Place {
-        column: s.column,
-        lane: page.lanes.of(s.event.process()),
+    /// Where a column crosses the lane of a process.
+    pub(crate) fn place(&self, column: u32, p: ProcNo) -> Place
+        ensures { result ≡ place_at (view_in self.now) column p }
+    {
+        let x = x_of(column);
+        let y = y_of(self.lanes.of(p));
+        Place { x, y }
     }
-}
-
-/// The stretch of a process's lane up to a row.
-pub(crate) fn stretch_of(page: &Page<'_>, s: &Shown) -> Mark
-    ensures { result ≡ stretch_of (view_in page.now) s.now }
-{
-    Mark::Stretch(s.stretch, page.lanes.of(s.event.process()), s.column)
 }
 
 /// The arrow of this row that takes a message, or that sends one which is in transit at the window's end.
@@ -78,9 +62,8 @@ pub(crate) fn arrow_at(page: &Page<'_>, s: &Shown, event: Event) -> Option<Path>
         // Short, towards its receiver's lane.
         Event::Sent { p, to, .. } if s.is_in_transit => {
             let down = page.lanes.of(p) < page.lanes.of(to);
-            let figure = shape(Look::Way, None, Outline::Way { down });
-            let from = place_of(page, s);
-            Some(Path { from, figure })
+            let from = page.place(s.column, s.event.process());
+            Some(Path::at(from, Look::Way, None, Outline::Way { down }))
         }
         Event::Received { from, msg, .. } => Some(arrow(page, s, from, msg)),
         Event::Dropped { from, msg, .. } => Some(arrow(page, s, from, msg)),
@@ -88,19 +71,18 @@ pub(crate) fn arrow_at(page: &Page<'_>, s: &Shown, event: Event) -> Option<Path>
     }
 }
 
-// The arrow of a message from where it was sent to where a row takes it, in the colour of the instance of its chain.
+// The arrow of a message from where it was sent to where a row takes it, in the colour of the instance of its chain. It
+// begins in the column of the row which sent it, but not behind its head.
 fn arrow(page: &Page<'_>, s: &Shown, from: ProcNo, msg: MsgNo) -> Path
     ensures { result ≡ arrow (view_in page.now) s.now from msg }
 {
     let link = page.link(msg);
     let stands_out = page.orphan == Some(msg);
     let look = arrow_look(s.is_undone, s.is_taken_back, stands_out, link.is_some());
-    let from = Place {
-        column: tail_of(page.sheet.before, msg, s.column),
-        lane: page.lanes.of(from),
-    };
-    let figure = shape(look, colour_for(look, link), Outline::To(place_of(page, s)));
-    Path { from, figure }
+    let tail = s.column.min(msg.get().saturating_sub(page.sheet.before));
+    let from = page.place(tail, from);
+    let outline = Outline::To(page.place(s.column, s.event.process()));
+    Path::at(from, look, colour_for(look, link), outline)
 }
 
 // How an arrow looks.
@@ -127,25 +109,15 @@ fn colour_for(look: Look, link: Option<InstNo>) -> Option<u16>
     }
 }
 
-// The column where the arrow of a message begins: that of the row which sent it, but not behind its head.
-fn tail_of(before: u32, msg: MsgNo, column: u32) -> u32
-    ensures { result ≡ tail_of before msg column }
-{
-    let sent = msg.get().saturating_sub(before);
-    if column < sent { column } else { sent }
-}
-
 /// What shows a row at its place.
 pub(crate) fn figure_of(page: &Page<'_>, s: &Shown) -> Path
     ensures { result ≡ figure_of (view_in page.now) s.now }
 {
-    let from = place_of(page, s);
-    let figure = figure_at(s);
-    Path { from, figure }
+    figure_at(page.place(s.column, s.event.process()), s)
 }
 
-fn figure_at(s: &Shown) -> Figure
-    ensures { result ≡ figure_at s.now s.now.event }
+fn figure_at(at: Place, s: &Shown) -> Path
+    ensures { result ≡ figure_at at s.now s.now.event }
 {
     let crossed = s.decision == Some(false);
     let joined = if s.decision == Some(true) {
@@ -154,53 +126,63 @@ fn figure_at(s: &Shown) -> Figure
         Look::Open
     };
     match s.event {
-        Event::Sent { .. } if s.is_undone => shape(Look::PaleDot, None, Outline::Dot),
-        Event::Sent { .. } => shape(Look::Dot, None, Outline::Dot),
+        Event::Sent { .. } if s.is_undone => Path::at(at, Look::PaleDot, None, Outline::Dot),
+        Event::Sent { .. } => Path::at(at, Look::Dot, None, Outline::Dot),
         Event::Received { .. } if s.is_undone || s.is_taken_back => {
-            shape(Look::PaleTick, None, Outline::Tick)
+            Path::at(at, Look::PaleTick, None, Outline::Tick)
         }
-        Event::Received { .. } => shape(Look::Tick, None, Outline::Tick),
-        Event::Dropped { .. } => shape(Look::Dropped, None, Outline::Cross),
-        Event::Began { inst, .. } => shape(Look::Bar, Some(inst.get()), Outline::Beginning),
-        Event::Took { inst, .. } => shape(joined, Some(inst.get()), Outline::Square { crossed }),
-        Event::Ready { inst, .. } => shape(joined, Some(inst.get()), Outline::Triangle { crossed }),
+        Event::Received { .. } => Path::at(at, Look::Tick, None, Outline::Tick),
+        Event::Dropped { .. } => Path::at(at, Look::Dropped, None, Outline::Cross),
+        Event::Began { inst, .. } => Path::at(at, Look::Bar, Some(inst.get()), Outline::Beginning),
+        Event::Took { inst, .. } => {
+            Path::at(at, joined, Some(inst.get()), Outline::Square { crossed })
+        }
+        Event::Ready { inst, .. } => {
+            Path::at(at, joined, Some(inst.get()), Outline::Triangle { crossed })
+        }
         Event::Decided { inst, commit, .. } => {
             let look = if commit { Look::Full } else { Look::Open };
             let crossed = !commit;
-            shape(look, Some(inst.get()), Outline::Diamond { crossed })
+            Path::at(at, look, Some(inst.get()), Outline::Diamond { crossed })
         }
-        Event::Closed { inst, .. } => shape(Look::Open, Some(inst.get()), Outline::Ending),
-        Event::Failed { .. } => shape(Look::Failed, None, Outline::Bolt),
-        Event::Unwilling { .. } | Event::Refused { .. } => shape(Look::Refused, None, Outline::Ban),
+        Event::Closed { inst, .. } => Path::at(at, Look::Open, Some(inst.get()), Outline::Ending),
+        Event::Failed { .. } => Path::at(at, Look::Failed, None, Outline::Bolt),
+        Event::Unwilling { .. } | Event::Refused { .. } => {
+            Path::at(at, Look::Refused, None, Outline::Ban)
+        }
     }
 }
 
 /// The number of the row of each fifth column.
-pub(crate) fn number_at(s: &Shown) -> Option<Mark>
+pub(crate) fn number_at(s: &Shown) -> Option<Word>
     ensures { result ≡ number_at s.now.row s.now.column }
 {
-    if s.column % 5 == 0 {
-        Some(Mark::RowNumber(s.row, s.column))
-    } else {
-        None
+    if s.column % 5 != 0 {
+        return None;
     }
+    let x = x_of(s.column);
+    let saying = Saying::Column(s.row);
+    Some(Word { x, y: 20, saying })
 }
 
 /// The word beside the mark of this row, or beside its arrow.
-pub(crate) fn word_at(page: &Page<'_>, s: &Shown, event: Event) -> Option<Mark>
+pub(crate) fn word_at(page: &Page<'_>, s: &Shown, event: Event) -> Option<Word>
     ensures { result ≡ word_at (view_in page.now) s.now event }
 {
     match event {
         Event::Sent { p, to, body } if s.is_in_transit => {
-            label(page, s, p, to, s.row, Some(body))
+            label(page, s, p, to, Saying::Message(s.row, Some(body)))
         }
-        Event::Received { p, from, msg } => {
-            label(page, s, p, from, msg.get(), body_of(page, msg))
+        Event::Received { p, from, msg } | Event::Dropped { p, from, msg } => {
+            label(
+                page,
+                s,
+                p,
+                from,
+                Saying::Message(msg.get(), body_of(page, msg)),
+            )
         }
-        Event::Dropped { p, from, msg } => label(page, s, p, from, msg.get(), body_of(page, msg)),
-        Event::Began { inst, kind, .. } => {
-            Some(word(page, s, false, Saying::Instance(kind, inst)))
-        }
+        Event::Began { inst, kind, .. } => Some(word(page, s, false, Saying::Instance(kind, inst))),
         Event::Decided { .. } => Some(word(page, s, true, Saying::Row(s.row))),
         Event::Unwilling { cause, .. } | Event::Refused { cause, .. } => {
             Some(word(page, s, true, Saying::Why(cause)))
@@ -209,30 +191,26 @@ pub(crate) fn word_at(page: &Page<'_>, s: &Shown, event: Event) -> Option<Mark>
     }
 }
 
-fn word(page: &Page<'_>, s: &Shown, below: bool, saying: Saying) -> Mark
+// A word below or above the place of a row, in one of four lines between two lanes, the next column's in the next line.
+fn word(page: &Page<'_>, s: &Shown, below: bool, saying: Saying) -> Word
     ensures { result ≡ word (view_in page.now) s.now below saying }
 {
-    let at = place_of(page, s);
-    let spot = Spot { at, below };
-    Mark::Word(Word { spot, saying })
+    let x = x_of(s.column);
+    let lane = y_of(page.lanes.of(s.event.process()));
+    let first = if below { lane + 20 } else { lane - 44 };
+    let y = first + 10 * (u64::from(s.column) % 4);
+    Word { x, y, saying }
 }
 
-// The word beside the arrow of a message between a process and another one, on the other one's side.
-fn label(
-    page: &Page<'_>,
-    s: &Shown,
-    p: ProcNo,
-    other: ProcNo,
-    msg: u32,
-    body: Option<i64>,
-) -> Option<Mark>
-    ensures { result ≡ label (view_in page.now) s.now p other msg body }
+// What is said beside the arrow of a message between a process and another one, on the other one's side.
+fn label(page: &Page<'_>, s: &Shown, p: ProcNo, other: ProcNo, saying: Saying) -> Option<Word>
+    ensures { result ≡ label (view_in page.now) s.now p other saying }
 {
     if page.columns > MOST_LABELLED {
         return None;
     }
     let below = page.lanes.of(p) < page.lanes.of(other);
-    Some(word(page, s, below, Saying::Message(msg, body)))
+    Some(word(page, s, below, saying))
 }
 
 // How many columns a picture has at most whose messages have words.

@@ -1,4 +1,4 @@
-//! What the window of a picture shows, and what is known at each of its rows.
+//! What the window of a picture shows: what is known at each of its rows, and the row after it that breaks a rule.
 
 ghost use Rattle.std.specs.Prelude.{◌≡◌, ◌<◌, ◌^◌, ◌+◌, ◌++◌, ◌∷◌, [], ℕ, List, IfOk, OnOk, map, slice_set};
 ghost use Rattle.std.specs.List.{range_with_len};
@@ -6,11 +6,12 @@ ghost use Rattle.kt_spacetime.specs.declared.event.Event.{Event};
 ghost use Rattle.kt_spacetime.specs.Events.{process_of};
 ghost use Rattle.kt_meaning.specs.Past.{past};
 ghost use Rattle.kt_walk.specs.WalkOf.{WalkOf};
+ghost use Rattle.kt_picture.specs.Breach.{breach_shown};
 ghost use Rattle.kt_picture.specs.KnownAtRow.{KnownAtRow, cut_in, plain_at, taken_after, places_after, place_after, stretch_from};
 ghost use Rattle.kt_picture.specs.KnownOf.{KnownOf};
 
 use kt_base::{InstNo, Memory, ProcNo};
-use kt_spacetime::Event;
+use kt_spacetime::{Event, Rule};
 use kt_walk::Walk;
 use std::alloc::Global;
 
@@ -52,6 +53,35 @@ pub(crate) struct CutMark {
     pub(crate) columns: [u32; 64],
     /// Whether it differs from the one before.
     pub(crate) is_new: bool,
+}
+
+/// The row that comes after those of a legal log, and the least rule that it breaks.
+#[derive(Clone, Copy, Debug, PartialEq, Eq)]
+pub struct Breach {
+    pub event: Event,
+    pub rule: Rule,
+}
+
+impl Breach {
+    /// The row as what it says, in a column of its own.
+    pub(crate) fn shown(&self, number: u32, column: u32) -> Shown
+        ensures { result ≡ breach_shown number column self.now }
+    {
+        Shown {
+            row: number,
+            column,
+            event: self.event,
+            stretch: Stretch {
+                since: 0,
+                up: true,
+                open_in: None,
+            },
+            is_undone: false,
+            is_taken_back: false,
+            is_in_transit: true,
+            decision: None,
+        }
+    }
 }
 
 /// What is known at a row of the window, beside a walk: how many rows of the window came before it, and where marks of

@@ -1,5 +1,5 @@
 use Rattle.std.proofs.Common.{◌∙◌, ◌++◌, ap, sym, Option}
-use Rattle.kt_picture.specs.declared.breach.Breach.{Breach}
+use Rattle.kt_picture.specs.declared.window.Breach.{Breach}
 use Rattle.kt_picture.specs.Breach.{breach_rows}
 use Rattle.kt_picture.specs.Lanes.{is_named}
 use Rattle.kt_picture.proofs.DiagramFacts.{named_none, named_push}

@@ -1,7 +1,11 @@
-use Rattle.std.proofs.Common.{◌≤◌, arith, length, refl}
+use Rattle.std.proofs.Common.{◌≤◌, Some, arith, length, refl, subst, sym}
 use Rattle.std.proofs.lemmas.Result.{on_ok_weaker}
 use Rattle.kt_picture.proofs.DiagramFacts.{columns_few}
-use Rattle.kt_draw.proofs.Following.{followed_added, followed_left, followed_passed, open_diagram}
+use Rattle.kt_walk.specs.WalkOf.{WalkOf}
+use Rattle.kt_walk.specs.WalkParts.{WalkParts}
+use Rattle.kt_draw.specs.declared.drawing.Followed.{Followed}
+use Rattle.kt_draw.specs.Followed.{FollowedOf}
+use Rattle.kt_draw.proofs.Following.{followed_added, followed_closed, followed_left, followed_passed, open_diagram}
 use Rattle.kt_draw.proofs.drawing.Followed.add.Goals as goal
 
 pub returns-then-rows-self-clause-added : goal.returns-then-rows-self-clause-added
@@ -29,13 +33,14 @@ returns-clause-added c =
     on_ok_weaker c.feed.result
     (λ step rows h.
     let late : f.last ≤ length rows = omega (arith, c.if-rows-self-2.false, c.rows-rows.ensures.rows, h.walk.control.number) in
-    let closed = c.in_ok-close.ensures.closed rows h late in
-    let sheet = c.in_ok-close.ensures.sheet in
-    followed_left c.close.new.self _ rows c.args.row.now refl refl refl closed sheet.0 sheet.1 (omega (arith, c.close.ensures.last, late)) (step rows closed.walk).1)
+    let s = c.sheet.new.self in
+    let g : Followed = record { alloc = s.alloc; walk = s.walk; diagram = s.diagram; sheet = Some c.in_ok-sheet.sheet; before = s.before; last = s.last } in
+    let closed : FollowedOf g rows = followed_closed f g c.in_ok-sheet.sheet rows refl c.sheet.ensures.walk c.sheet.ensures.before c.sheet.ensures.last late (c.in_ok-sheet.ensures.exact rows h (omega (arith, h.some, late))) h in
+    followed_left g _ rows c.args.row.now refl refl refl closed c.in_ok-sheet.sheet refl (omega (arith, c.sheet.ensures.last, late)) (step rows closed.walk).1)
     c.feed.ensures.fed
 
 pub returns-clause-broken : goal.returns-clause-broken
 returns-clause-broken c = λ number rule e rows h.
     let f = c.args.self.now in
     let late : f.last ≤ length rows = omega (arith, c.if-rows-self-2.false, c.rows-rows.ensures.rows, h.walk.control.number) in
-    (c.feed.ensures.broken number rule e rows (c.in_ok-close.ensures.closed rows h late).walk).1
+    (c.feed.ensures.broken number rule e rows (subst (λ (w : WalkParts). WalkOf w rows) (sym c.sheet.ensures.walk) h.walk)).1

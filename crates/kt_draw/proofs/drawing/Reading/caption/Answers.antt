@@ -4,4 +4,4 @@ use Rattle.kt_picture.specs.Breach.{caption_of}
 use Rattle.kt_draw.proofs.drawing.Reading.caption.Goals as goal
 
 pub returns : goal.returns
-returns c = IfOk-weaker c.caption.result _ _ (λ line made span read h. made ∙ ap (λ n. caption_of (n + 1) c.args.self.now.breach) (c.rows.ensures ∙ h.followed.walk.control.number)) c.caption.ensures.exact
+returns c = IfOk-weaker c.caption.result _ _ (λ line made span read h. made ∙ ap (λ n. caption_of (n + 1) c.args.self.now.breach) (c.rows.ensures.rows ∙ h.followed.walk.control.number)) c.caption.ensures.exact

@@ -18,7 +18,7 @@ picture-requires c =
     let h = c.requires.few.1 in
     let r = c.args.self.now in
     let f = r.followed in
-    let kept : c.rows-kept.result ≡ length h.kept = c.rows-kept.ensures ∙ h.followed.walk.control.number in
+    let kept : c.rows-kept.result ≡ length h.kept = c.rows-kept.ensures.rows ∙ h.followed.walk.control.number in
     let seen = ap (λ (n : ℕ). c.rows-kept.result + n) (c.from.ensures ∙ byte_is _ ∙ ap (λ (b : Bool). if b then 1 else 0) c.is_some.ensures) in
     let begins = begun r c.args.span c.requires.few.0 c.rows-kept.result r.count _ h kept seen c.in_ok-last.ensures.rows in
     let sheet = c.in_ok-sheet.ensures.exact h.kept h.followed begins in
@@ -31,7 +31,7 @@ returns-clause-picture c = λ read h told.
     let certificates = c.args.evidence.now.certificates.now in
     let n = c.rows-kept.result in
     let last = c.in_ok-last.last in
-    let kept : n ≡ length h.kept = c.rows-kept.ensures ∙ h.followed.walk.control.number in
+    let kept : n ≡ length h.kept = c.rows-kept.ensures.rows ∙ h.followed.walk.control.number in
     let seen = ap (λ (k : ℕ). n + k) (c.from.ensures ∙ byte_is _ ∙ ap (λ (b : Bool). if b then 1 else 0) c.is_some.ensures) in
     let begins = begun r c.args.span read n r.count _ h kept seen c.in_ok-last.ensures.rows in
     let drawn : c.if-kept-last.breach ≡ breach_drawn n last r.breach = elim c.if-kept-last.branch [
@@ -49,4 +49,4 @@ returns-in_err-last-clause-fault c = λ read h.
     let seen = ap (λ (n : ℕ). c.rows-kept.result + n) (c.from.ensures ∙ byte_is _ ∙ ap (λ (b : Bool). if b then 1 else 0) c.is_some.ensures) in
     rw (p.1)
     (subst (IsUndrawnLog c.args.span read) (sym p.2)
-    (reading_undrawn c.args.span r read c.rows-kept.result r.count _ c.in_err-last.field-0.0 h (c.rows-kept.ensures ∙ h.followed.walk.control.number) refl seen c.in_err-last.ensures.fault))
+    (reading_undrawn c.args.span r read c.rows-kept.result r.count _ c.in_err-last.field-0.0 h (c.rows-kept.ensures.rows ∙ h.followed.walk.control.number) refl seen c.in_err-last.ensures.fault))

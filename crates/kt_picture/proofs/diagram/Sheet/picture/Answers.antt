@@ -24,6 +24,7 @@ returns c =
       lanes = lanes j;
       before = h.before_is j;
       columns = columns j;
+      right = h.columns j + 1;
       shown = h.shown j;
       cuts = h.cuts j;
       ends = h.ends j;
