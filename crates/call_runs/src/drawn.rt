@@ -1,6 +1,6 @@
 //! Drawn runs of clusters.
 
-ghost use Rattle.std.specs.Prelude.{◌≤◌, ◌<◌, ◌×◌};
+ghost use Rattle.std.specs.Prelude.{◌≤◌, ◌<◌};
 
 use crate::clusters::log_of;
 use crate::faults::{refused, value_of};
