@@ -34,7 +34,7 @@ const MOST: u64 = u64::MAX - 1;
 
 /// A parcel on its way: which one it is of those from its sender to its receiver, counted from 1, the clock of the step that
 /// put it, and what it is.
-#[derive(Clone, Copy, Debug, PartialEq, Eq, Hash)]
+#[derive(Clone, Copy, Debug, PartialEq, Eq)]
 pub struct Envelope {
     pub number: u64,
     pub clock: u64,
@@ -57,7 +57,7 @@ pub enum Taken {
 }
 
 /// Why a node does not take a step. It is as it was.
-#[derive(Clone, Copy, Debug, PartialEq, Eq, Hash, Error)]
+#[derive(Clone, Copy, Debug, PartialEq, Eq, Error)]
 pub enum NodeFault {
     /// Parcels of this sender are missing: the next one is the one with this number.
     #[error("gap before {0}")]
@@ -341,6 +341,23 @@ impl Node {
 
 /// These counts, with one more for each process for which there is a parcel.
 fn counted(before: &[u64; 64], parcels: &Parcels) -> [u64; 64]
+    requires { (q : ℕ) → slice_index before.now q < 2 ^ 64 - 1 }
+    ensures { (q : ℕ) → q < 64 →
+        slice_index result q ≡ slice_index before.now q + length (put_to parcels.now q) }
+{
+    match parcels {
+        Parcels::Nothing => *before,
+        Parcels::One { to, .. } => {
+            let mut counts = *before;
+            counts[to.index()] += 1;
+            counts
+        }
+        Parcels::Asks { .. } | Parcels::Decisions { .. } => counted_each(before, parcels),
+    }
+}
+
+/// The same, where there may be parcels for many.
+fn counted_each(before: &[u64; 64], parcels: &Parcels) -> [u64; 64]
     requires { (q : ℕ) → slice_index before.now q < 2 ^ 64 - 1 }
     ensures { (q : ℕ) → q < 64 →
         slice_index result q ≡ slice_index before.now q + length (put_to parcels.now q) }
