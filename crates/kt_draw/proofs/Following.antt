@@ -21,7 +21,7 @@ use Rattle.kt_draw.specs.declared.drawing.Followed.{Followed}
 use Rattle.kt_draw.specs.declared.drawing.Reading.{Reading}
 use Rattle.kt_draw.specs.declared.span.Span.{Span}
 use Rattle.kt_picture.specs.Picture.{picture_of}
-use Rattle.kt_draw.specs.declared.fault.PictureFault.{PictureFault}
+use Rattle.kt_draw.specs.declared.span.PictureFault.{PictureFault}
 use Rattle.kt_draw.specs.Drawn.{HasRows, IsNoPicture, IsNoWindow, IsPictureTo, IsReadTo, IsShort, breach_drawn, first_row, last_row, most_columns, rows_drawn, rows_seen}
 use Rattle.kt_draw.specs.Followed.{AreRowsRead, FollowedOf, ReadingOf, ShowsWindow, last_wanted}
 use Rattle.kt_draw.proofs.Fronts.{broken_number, broken_within, last_seen, not_pictured, one_column, pictured, reads_front, reads_whole}

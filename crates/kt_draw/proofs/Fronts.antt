@@ -12,7 +12,7 @@ use Rattle.kt_spacetime.specs.declared.certificate.Certificate.{Certificate}
 use Rattle.kt_picture.specs.declared.window.Breach.{Breach}
 use Rattle.kt_picture.specs.Breach.{breach_columns}
 use Rattle.kt_draw.specs.declared.span.Span.{Span}
-use Rattle.kt_draw.specs.declared.fault.PictureFault.{PictureFault}
+use Rattle.kt_draw.specs.declared.span.PictureFault.{PictureFault}
 use Rattle.kt_draw.specs.Drawn.{HasRows, IsDrawn, IsNoPicture, IsNoWindow, IsPictureTo, IsReadTo, IsShort, drawn_text, first_row, last_row, line_below, rows_seen}
 
 -- the rows before the first one that breaks a rule break none

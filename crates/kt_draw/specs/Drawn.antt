@@ -18,10 +18,10 @@ use Rattle.kt_explain.specs.Told.{IsExplanation}
 use Rattle.kt_picture.specs.declared.window.Breach.{Breach}
 use Rattle.kt_picture.specs.Breach.{breach_columns, caption_of}
 use Rattle.kt_picture.specs.Picture.{picture_of}
-use Rattle.kt_draw.specs.declared.fault.DrawFault.{DrawFault}
-use Rattle.kt_draw.specs.declared.fault.DrawFault.TheVariants as draw
-use Rattle.kt_draw.specs.declared.fault.PictureFault.{PictureFault}
-use Rattle.kt_draw.specs.declared.fault.PictureFault.TheVariants.{NoRows, TooLong}
+use Rattle.kt_draw.specs.declared.span.DrawFault.{DrawFault}
+use Rattle.kt_draw.specs.declared.span.DrawFault.TheVariants as draw
+use Rattle.kt_draw.specs.declared.span.PictureFault.{PictureFault}
+use Rattle.kt_draw.specs.declared.span.PictureFault.TheVariants.{NoRows, TooLong}
 use Rattle.kt_draw.specs.declared.span.Span.{Span}
 
 -- how many rows a picture has at most

@@ -13,8 +13,7 @@ ghost use Rattle.kt_draw.specs.declared.span.Span.{Span as Spans};
 ghost use Rattle.kt_draw.specs.Drawn.{answer_sentence, IsCertifiedPicture, IsNoPictureOf, IsOrphanDrawn, IsPictureOf, IsPictureTo, IsUndrawnLog, orphan_told};
 ghost use Rattle.kt_draw.specs.Followed.{AreRowsRead, FollowedOf, ReadingOf};
 
-use crate::fault::DrawFault;
-use crate::span::{Span, first_row, last_drawn, last_wanted};
+use crate::span::{DrawFault, Span, first_row, last_drawn, last_wanted};
 use kt_base::{Memory, MsgNo};
 use kt_checker::check;
 use kt_explain::{Explanation, explain};

@@ -1,13 +1,11 @@
 //! Pictures of stored logs: which rows are drawn, up to the first one that breaks a rule.
 //!
-//! **What to change where:** rows of a log, with certificates too, `drawing.rt`; which rows `span.rt`; `fault.rt`; as
+//! **What to change where:** rows of a log, with certificates too, `drawing.rt`; which rows, and why none, `span.rt`; as
 //! definitions `specs/Drawn`, `specs/Followed`.
 #![tactic(auto)]
 
 mod drawing;
-mod fault;
 mod span;
 
 pub use drawing::{draw_certified, draw_rows, draw_stream};
-pub use fault::{DrawFault, PictureFault};
-pub use span::Span;
+pub use span::{DrawFault, PictureFault, Span};

@@ -1,17 +1,22 @@
-//! Which rows of a log are drawn.
+//! Which rows of a log are drawn, and why there is no picture of them.
 
 ghost use Rattle.std.specs.Prelude.{◌≡◌, ◌≤◌, ◌<◌, ◌^◌, IfOk, IfErr};
+ghost use Rattle.kt_log_text.specs.declared.fault.LogFault.TheVariants as log;
+ghost use Rattle.kt_draw.specs.declared.span.DrawFault.TheVariants as draw;
 ghost use Rattle.kt_draw.specs.Drawn.{HasRows, IsNoWindow, IsShort, first_row, last_row};
 ghost use Rattle.kt_draw.specs.Followed.{last_wanted};
 
-use crate::fault::PictureFault;
+use kt_base::Memory;
+use kt_log_text::LogFault;
+use std::fmt;
+use thiserror::Error;
 
 /// How many rows a picture has at most.
 const MOST_COLUMNS: usize = 4096;
 
 /// The first and the last row that are to be drawn, by number from 1; where one is missing, the first or the last row that
 /// there is.
-#[derive(Clone, Copy, Debug, PartialEq, Eq)]
+#[derive(Clone, Copy)]
 pub struct Span {
     pub from: Option<u32>,
     pub to: Option<u32>,
@@ -58,8 +63,65 @@ pub(crate) fn first_row(from: Option<u32>) -> usize
     ensures exact { result ≡ first_row from }
     ensures few { result < 2 ^ 32 }
 {
-    match from {
-        Some(from) => from as usize,
-        None => 1,
+    from.unwrap_or(1) as usize
+}
+
+/// Why there is no picture of rows of a log.
+#[derive(Clone, Copy, Debug)]
+pub enum PictureFault {
+    /// There are no such rows: none is asked for, the log does not have them, or they come after one that breaks a rule.
+    NoRows,
+    /// There are more than 4,096 of them.
+    TooLong,
+}
+
+impl fmt::Display for PictureFault {
+    ghost use Rattle.std.specs.Prelude.{Some};
+    ghost use Rattle.kt_draw.specs.Drawn.{picture_fault_text};
+
+    ghost output = { λ fault. Some (picture_fault_text fault) };
+
+    fn fmt<W: fmt::Write>(&self, f: &mut fmt::Formatter<W>) -> fmt::Result {
+        match self {
+            PictureFault::NoRows => write!(f, "no such rows"),
+            PictureFault::TooLong => write!(f, "picture too long"),
+        }
+    }
+}
+
+impl std::error::Error for PictureFault {}
+
+/// Why rows of a stored log were not drawn.
+#[derive(Clone, Copy, Debug, Error)]
+pub enum DrawFault {
+    /// The log's text was refused, or there was no memory.
+    #[error(transparent)]
+    Log(LogFault),
+    /// There is no picture of these rows.
+    #[error(transparent)]
+    Picture(PictureFault),
+}
+
+impl From<Memory> for DrawFault {
+    ghost from_gives = { λ _ f. f ≡ draw.Log log.Memory };
+
+    fn from(_fault: Memory) -> DrawFault {
+        DrawFault::Log(LogFault::Memory)
+    }
+}
+
+impl From<LogFault> for DrawFault {
+    ghost from_gives = { λ fault f. f ≡ draw.Log fault };
+
+    fn from(fault: LogFault) -> DrawFault {
+        DrawFault::Log(fault)
+    }
+}
+
+impl From<PictureFault> for DrawFault {
+    ghost from_gives = { λ fault f. f ≡ draw.Picture fault };
+
+    fn from(fault: PictureFault) -> DrawFault {
+        DrawFault::Picture(fault)
     }
 }

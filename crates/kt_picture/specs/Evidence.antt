@@ -1,5 +1,5 @@
 -- What certificates add to a picture: whose chain has a message, and why a member took part.
-use Rattle.std.specs.Prelude.{◌==◌, ℕ, zero, suc, nat_lt, if◌then◌else◌, Bool, Option, Some, None, List, [], ◌∷◌, ◌++◌, codes, length, find}
+use Rattle.std.specs.Prelude.{◌==◌, ℕ, zero, suc, nat_lt, if◌then◌else◌, Bool, Option, Some, None, List, [], ◌++◌, codes, length, find}
 use Rattle.std.specs.List.{list_any, flat_map}
 use Rattle.std.specs.Fmt.{decimal}
 use Rattle.std.specs.Option.{option_map}

@@ -1,6 +1,6 @@
 //! A space-time diagram under way: rows come one after another, and are not kept.
 
-ghost use Rattle.std.specs.Prelude.{◌≡◌, ◌≤◌, ◌<◌, ◌^◌, ◌+◌, ◌++◌, ◌∷◌, [], ℕ, List, Some, Err, IfOk, OnOk, OnErr, length, take};
+ghost use Rattle.std.specs.Prelude.{◌≡◌, ◌≤◌, ◌<◌, ◌^◌, ◌+◌, ◌++◌, ◌∷◌, [], ℕ, List, Some, Err, IfOk, OnOk, OnErr, length};
 ghost use Rattle.kt_spacetime.specs.declared.event.Event.{Event};
 ghost use Rattle.kt_spacetime.specs.declared.rules.Rule.{Rule};
 ghost use Rattle.kt_base.specs.Sets.{has};
@@ -14,11 +14,11 @@ ghost use Rattle.kt_picture.specs.Lanes.{is_named};
 ghost use Rattle.kt_picture.specs.Picture.{picture_of};
 
 use crate::entry::{Entry, follow, message_of, shown_rows, taken_by};
-use crate::evidence::{Evidence, links_of};
-use crate::lanes::{Lanes, with_named};
 use crate::layers::text_of;
-use crate::rows::Page;
-use crate::window::{Breach, CutMark, Known, Shown, Stretch, lane_ends, push_cut, push_item};
+use crate::rows::{Evidence, Page, links_of};
+use crate::window::{
+    Breach, CutMark, Known, Lanes, Shown, Stretch, lane_ends, push_cut, push_item, with_named,
+};
 use kt_base::{Memory, MsgNo, ProcSet};
 use kt_plan::Names;
 use kt_rules::LegalFault;
@@ -163,7 +163,8 @@ impl Sheet {
             evidence.now.certificates.now evidence.now.orphan caption.now) }
     {
         let lanes = Lanes::of_named(alloc, with_breach(self.named, breach))?;
-        let rows = front_of(rows, (self.before + self.columns) as usize);
+        let count = (self.before + self.columns) as usize;
+        let rows = &rows[..count.min(rows.len())];
         let links = links_of(alloc, evidence.certificates, rows.len())?;
         let page = Page {
             alloc,
@@ -179,17 +180,6 @@ impl Sheet {
             links: links.as_slice(),
         };
         text_of(alloc, &page, caption)
-    }
-}
-
-// The first so many rows.
-fn front_of(rows: &[Event], count: usize) -> &[Event]
-    ensures { result.now ≡ take count rows.now }
-{
-    if count < rows.len() {
-        &rows[..count]
-    } else {
-        rows
     }
 }
 

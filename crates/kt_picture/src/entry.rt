@@ -7,7 +7,7 @@ ghost use Rattle.kt_meaning.specs.Past.{past};
 ghost use Rattle.kt_meaning.specs.Legal.{broken_rule};
 ghost use Rattle.kt_walk.specs.WalkOf.{WalkOf};
 ghost use Rattle.kt_picture.specs.Fates.{receives, is_message_undone, is_receive_undone, is_sent_in_transit, joined_decision};
-ghost use Rattle.kt_picture.specs.Followed.{AreFollowed, IsFollowed, IsFollowedAs, event_of, if_within, message_in, message_kept, message_taken, plain_of, told_rows, trace_after};
+ghost use Rattle.kt_picture.specs.Followed.{AreFollowed, IsFollowed, IsFollowedAs, event_of, if_within, message_in, message_taken, plain_of, told_rows, trace_after};
 ghost use Rattle.kt_picture.specs.KnownAtRow.{told_at};
 
 use crate::window::{Shown, push_item};
@@ -37,18 +37,12 @@ pub(crate) fn taken_by(walk: &Walk, row: &Event) -> Option<Message>
         → IsFollowedAs rows (message_taken row.now) result }
 {
     match *row {
-        Event::Received { msg, .. } => traced(walk, msg),
-        Event::Dropped { msg, .. } => traced(walk, msg),
+        Event::Received { msg, .. } | Event::Dropped { msg, .. } => {
+            let trace = walk.trace(msg)?;
+            Some(Message { msg, trace })
+        }
         _ => None,
     }
-}
-
-// A message that the walk keeps.
-fn traced(walk: &Walk, msg: MsgNo) -> Option<Message>
-    ensures { (rows : List Event) → WalkOf walk.now rows → result ≡ message_kept rows msg }
-{
-    let trace = walk.trace(msg)?;
-    Some(Message { msg, trace })
 }
 
 /// The message of the last row, which has this number; what the row takes is given as it stood before.
@@ -92,14 +86,10 @@ fn followed(walk: &Walk, row: &Event, message: Option<Message>) -> Option<Messag
     ensures { (rows : List Event) (wanted : Option ℕ) → WalkOf walk.now (rows ++ row.now ∷ [])
         → IsFollowedAs rows wanted message → IsFollowedAs (rows ++ row.now ∷ []) wanted result }
 {
-    match message {
-        Some(message) => {
-            let msg = message.msg;
-            let trace = trace_after(walk, row, msg, message.trace);
-            Some(Message { msg, trace })
-        }
-        None => None,
-    }
+    let message = message?;
+    let msg = message.msg;
+    let trace = trace_after(walk, row, msg, message.trace);
+    Some(Message { msg, trace })
 }
 
 // The trace of a message after the last row.
@@ -138,10 +128,8 @@ pub(crate) fn shown_rows(
 {
     let mut shown = Vec::new(alloc);
     for index in 0..entries.len() {
-        push_item(
-            &mut shown,
-            told(walk, &entries[index], &entries[index + 1..]),
-        )?;
+        let row = told(walk, &entries[index], &entries[index + 1..]);
+        push_item(&mut shown, row)?;
     }
     Ok(shown)
 }
@@ -167,10 +155,7 @@ fn is_message_undone(message: Option<Message>) -> bool
     ensures { (upto : List Event) (n : ℕ) (row : Event) → IsFollowedAs upto (message_in n row) message
         → result ≡ is_message_undone upto n row }
 {
-    match message {
-        Some(message) => message.trace.sent.is_none(),
-        None => false,
-    }
+    matches!(message, Some(message) if message.trace.sent.is_none())
 }
 
 // Whether the row receives a message, and that is undone, where the window goes on with the rest.

@@ -3,16 +3,15 @@
 ghost use Rattle.std.specs.Prelude.{◌≡◌, ◌≤◌, ◌<◌, ◌^◌, ◌+◌, ◌++◌, IfOk, OnOk, length, string_bytes};
 ghost use Rattle.std.specs.List.{flat_map};
 ghost use Rattle.kt_picture.specs.Escaping.{escaped, escaped_byte};
-ghost use Rattle.kt_picture.specs.Layers.{arrow_text, breach_text, cut_text, lane_mark, lanes_text, marks_text, opening, picture_text, row_mark, rows_text, rule_of, stretch_text, titled_text, top_of, width_of, words_text};
+ghost use Rattle.kt_picture.specs.Layers.{breach_text, cut_text, lane_mark, lanes_text, marks_text, opening, picture_text, row_mark, rows_text, rule_of, stretch_text, titled_text, top_of, words_text};
 ghost use Rattle.kt_picture.specs.Legend.{signs_of};
 ghost use Rattle.kt_picture.specs.Pages.{view_in};
 
-use crate::evidence::push_reason;
 use crate::legend::{Sign, push_legend, signs_of};
 use crate::looks::{HEADS, Look, Outline, Path, Place, STYLE, x_of, y_of};
-use crate::rows::{Page, arrow_at, figure_of, number_at, word_at};
+use crate::rows::{Page, arrow_at, figure_at, number_at, word_at};
 use crate::window::{CutMark, Shown, Stretch};
-use crate::words::{Saying, Word, fields_of, push_name, push_word};
+use crate::words::{Saying, Word, fields_of, push_name, push_reason, push_word};
 use kt_base::{Memory, ProcNo};
 use std::alloc::Global;
 use std::fmt::Write;
@@ -40,7 +39,10 @@ fn push_opening(text: &mut String, page: &Page<'_>, signs: u64, line: usize) -> 
     requires few { signs ≤ 13 }
     ensures { OnOk result (string_bytes text.new ≡ string_bytes text.old ++ opening (view_in page.now) line) }
 {
-    let width = width_of(page.columns, line);
+    let wide = x_of(page.columns) + 120;
+    // Of more than 4096 bytes no more counts.
+    let line = 24 + 8 * line.min(4096) as u64;
+    let width = wide.max(line.max(560));
     let height = top_of(page) + 18 * ((signs + 1) / 2);
     writeln!(
         text,
@@ -51,16 +53,6 @@ fn push_opening(text: &mut String, page: &Page<'_>, signs: u64, line: usize) -> 
         text,
         "<rect class='paper' width='{width}' height='{height}' fill='#fff'/>"
     )?)
-}
-
-// How wide a picture is with so many columns, and a line of text of this length.
-fn width_of(columns: u32, line: usize) -> u64
-    ensures { result ≡ width_of columns line }
-{
-    let wide = x_of(columns) + 120;
-    // Of more than 4096 bytes no more counts.
-    let line = 24 + 8 * line.min(4096) as u64;
-    wide.max(line.max(560))
 }
 
 // Gathers the lanes and marks of a picture.
@@ -128,22 +120,18 @@ fn push_row(text: &mut String, page: &Page<'_>, layer: Layer, s: &Shown) -> Resu
             let from = page.place(s.stretch.since, s.event.process());
             push_stretch(text, s.stretch, from, s.column)
         }
-        Layer::Arrows => push_arrow(text, page, s),
-        Layer::Figures => push_path(text, page, s, figure_of(page, s)),
+        Layer::Arrows => match arrow_at(page, s, s.event) {
+            Some(arrow) => push_path(text, page, s, arrow),
+            None => Ok(()),
+        },
+        Layer::Figures => {
+            let at = page.place(s.column, s.event.process());
+            push_path(text, page, s, figure_at(at, s))
+        }
         Layer::Words => {
             push_word(text, number_at(s))?;
             push_word(text, word_at(page, s, s.event))
         }
-    }
-}
-
-// Gathers the arrow of a row, if it has one.
-fn push_arrow(text: &mut String, page: &Page<'_>, s: &Shown) -> Result<(), Memory>
-    ensures { OnOk result (string_bytes text.new ≡ string_bytes text.old ++ arrow_text (view_in page.now) s.now) }
-{
-    match arrow_at(page, s, s.event) {
-        Some(arrow) => push_path(text, page, s, arrow),
-        None => Ok(()),
     }
 }
 
@@ -216,31 +204,23 @@ fn push_lane(text: &mut String, page: &Page<'_>, thread: &Thread, p: ProcNo) -> 
     }
 }
 
-// Gathers the permanent cuts.
+// Gathers the permanent cuts that differ from the one before.
 fn push_cuts(text: &mut String, page: &Page<'_>) -> Result<(), Memory>
     ensures { OnOk result (string_bytes text.new ≡ string_bytes text.old
         ++ flat_map (cut_text (view_in page.now)) page.now.sheet.now.cuts.items) }
 {
     for cut in &page.sheet.cuts {
-        push_cut(text, page, cut)?;
+        if cut.is_new {
+            let inst = cut.inst.get();
+            write!(text, "<polyline class='cut c{}' points='", inst % 6)?;
+            push_lanes(text, page, &Thread::Cut(*cut))?;
+            writeln!(
+                text,
+                "'><title>permanent cut after instance {inst}</title></polyline>"
+            )?;
+        }
     }
     Ok(())
-}
-
-// Gathers a permanent cut that differs from the one before.
-fn push_cut(text: &mut String, page: &Page<'_>, cut: &CutMark) -> Result<(), Memory>
-    ensures { OnOk result (string_bytes text.new ≡ string_bytes text.old ++ cut_text (view_in page.now) cut.now) }
-{
-    if !cut.is_new {
-        return Ok(());
-    }
-    let inst = cut.inst.get();
-    write!(text, "<polyline class='cut c{}' points='", inst % 6)?;
-    push_lanes(text, page, &Thread::Cut(*cut))?;
-    Ok(writeln!(
-        text,
-        "'><title>permanent cut after instance {inst}</title></polyline>"
-    )?)
 }
 
 // Gathers the row that breaks a rule, where there is one, as what it says in the colour of a warning.

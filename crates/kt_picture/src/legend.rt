@@ -1,7 +1,6 @@
 //! The legend of a picture: of the marks that it has, and of no others.
 
 ghost use Rattle.std.specs.Prelude.{◌≡◌, ◌≤◌, ◌<◌, ◌^◌, ◌++◌, IfOk, OnOk, length, string_bytes};
-ghost use Rattle.std.specs.List.{list_any};
 ghost use Rattle.kt_picture.specs.Layers.{legend_text};
 ghost use Rattle.kt_picture.specs.Legend.{row_shows, has_sign, signs_of};
 ghost use Rattle.kt_picture.specs.Pages.{view_in};
@@ -9,7 +8,7 @@ ghost use Rattle.kt_picture.specs.Signs.{sign_path, sign_words};
 
 use crate::looks::{Look, Outline, Path, Place};
 use crate::rows::Page;
-use crate::window::{CutMark, Shown};
+use crate::window::Shown;
 use kt_base::Memory;
 use kt_spacetime::Event;
 use std::alloc::Global;
@@ -57,6 +56,9 @@ impl Sign {
         ensures { result ≡ sign_path self }
     {
         let at = Place { x: 24, y: 0 };
+        let square = Outline::Square { crossed: false };
+        let triangle = Outline::Triangle { crossed: false };
+        let diamond = Outline::Diamond { crossed: false };
         match self {
             Sign::Message => Path::at(at, Look::Message, None, Outline::Line),
             Sign::Undone => Path::at(at, Look::Unsent, None, Outline::Line),
@@ -64,24 +66,9 @@ impl Sign {
             Sign::Transit => Path::at(at, Look::Way, None, Outline::Line),
             Sign::Dropped => Path::at(at, Look::Dropped, None, Outline::Cross),
             Sign::Instance => Path::at(at, Look::Bar, Some(1), Outline::Line),
-            Sign::Checkpoint => Path::at(
-                at,
-                Look::Full,
-                Some(1),
-                Outline::Square { crossed: false },
-            ),
-            Sign::Rollback => Path::at(
-                at,
-                Look::Full,
-                Some(1),
-                Outline::Triangle { crossed: false },
-            ),
-            Sign::Decision => Path::at(
-                at,
-                Look::Full,
-                Some(1),
-                Outline::Diamond { crossed: false },
-            ),
+            Sign::Checkpoint => Path::at(at, Look::Full, Some(1), square),
+            Sign::Rollback => Path::at(at, Look::Full, Some(1), triangle),
+            Sign::Decision => Path::at(at, Look::Full, Some(1), diamond),
             Sign::Cut => Path::at(at, Look::Cut, Some(1), Outline::Line),
             Sign::Failure => Path::at(at, Look::Failed, None, Outline::Bolt),
             Sign::Refusal => Path::at(at, Look::Refused, None, Outline::Ban),
@@ -139,24 +126,10 @@ fn has_sign(page: &Page<'_>, sign: Sign) -> bool
     ensures { result ≡ has_sign (view_in page.now) sign }
 {
     match sign {
-        Sign::Cut => has_new_cut(page.sheet.cuts.as_slice()),
+        Sign::Cut => page.sheet.cuts.iter().any(|c| c.is_new),
         Sign::Wrong => page.breach.is_some() || page.orphan.is_some(),
-        _ => rows_show(page, sign, page.sheet.shown.as_slice()),
+        _ => page.sheet.shown.iter().any(|s| row_shows(page, sign, s)),
     }
-}
-
-// Whether one of these rows has a mark.
-fn rows_show(page: &Page<'_>, sign: Sign, shown: &[Shown]) -> bool
-    ensures { result ≡ list_any (row_shows (view_in page.now) sign) shown.now }
-{
-    shown.iter().any(|s| row_shows(page, sign, s))
-}
-
-// Whether a cut is drawn.
-fn has_new_cut(cuts: &[CutMark]) -> bool
-    ensures { result ≡ list_any (λ c. c.is_new) cuts.now }
-{
-    cuts.iter().any(|c| c.is_new)
 }
 
 /// The marks that a picture has, in their order.

@@ -1,19 +1,29 @@
-//! What marks are drawn by, and which marks show a row.
+//! What marks are drawn by, certificates among it, and which marks show a row.
 
-ghost use Rattle.std.specs.Prelude.{◌≡◌};
-ghost use Rattle.kt_picture.specs.Links.{link_at};
-ghost use Rattle.kt_picture.specs.Marks.{place_at, arrow_look, colour_for, arrow, arrow_at, figure_at, figure_of, body_of, label, word, word_at, number_at};
+ghost use Rattle.std.specs.Prelude.{◌≡◌, ◌==◌, ℕ, IfOk};
+ghost use Rattle.kt_picture.specs.Evidence.{has_message, has_chained, link_of};
+ghost use Rattle.kt_picture.specs.Links.{NotesMore, link_at};
+ghost use Rattle.kt_picture.specs.Marks.{place_at, arrow_look, colour_for, arrow, arrow_at, figure_at, body_of, label, word, word_at, number_at};
 ghost use Rattle.kt_picture.specs.Pages.{view_in};
 
 use crate::diagram::Sheet;
-use crate::lanes::Lanes;
 use crate::looks::{Look, Outline, Path, Place, x_of, y_of};
-use crate::window::{Breach, Shown};
+use crate::window::{Breach, Lanes, Shown};
 use crate::words::{Saying, Word};
-use kt_base::{InstNo, MsgNo, ProcNo};
+use kt_base::{InstNo, Memory, MsgNo, ProcNo};
 use kt_plan::Names;
 use kt_spacetime::{Certificate, Event};
 use std::alloc::Global;
+
+/// What is told of a log by its certificates, for a picture of it.
+#[derive(Clone, Copy)]
+pub struct Evidence<'a> {
+    /// The certificates, whose chains are drawn in the colours of their instances; of a message in several of them, the
+    /// first one counts.
+    pub certificates: &'a [Certificate],
+    /// The orphan that stands out.
+    pub orphan: Option<MsgNo>,
+}
 
 /// What marks are drawn by.
 #[derive(Drop)]
@@ -51,6 +61,49 @@ impl<'a> Page<'a> {
         let x = x_of(column);
         let y = y_of(self.lanes.of(p));
         Place { x, y }
+    }
+}
+
+/// By message of a log with so many rows, from 1 on, the instance of the first certificate that has it in a chain.
+pub(crate) fn links_of(
+    alloc: Global,
+    certificates: &[Certificate],
+    count: usize,
+) -> Result<Vec<Option<InstNo>>, Memory>
+    ensures { IfOk result (λ links. (msg : ℕ) → link_at links.items msg ≡ link_of count certificates.now msg) }
+{
+    let mut noted = vec![in alloc; None; count]?;
+    for certificate in certificates {
+        note_certificate(&mut noted, certificate);
+    }
+    Ok(noted)
+}
+
+// Notes the instance of a certificate at the messages of its chains.
+fn note_certificate(noted: &mut [Option<InstNo>], certificate: &Certificate)
+    ensures { NotesMore noted.old noted.new certificate.now.inst (λ msg. has_chained msg certificate.now) }
+{
+    for member in certificate.members.list() {
+        note_chain(noted, certificate.inst, member.1.messages());
+    }
+}
+
+// Notes an instance at the messages of a chain.
+fn note_chain(noted: &mut [Option<InstNo>], inst: InstNo, chain: &[MsgNo])
+    ensures { NotesMore noted.old noted.new inst (λ msg. has_message msg chain.now) }
+{
+    for msg in chain {
+        note(noted, inst, *msg);
+    }
+}
+
+// Notes an instance at a message of the log that has none.
+fn note(noted: &mut [Option<InstNo>], inst: InstNo, msg: MsgNo)
+    ensures { NotesMore noted.old noted.new inst (λ m. msg == m) }
+{
+    let index = msg.index();
+    if index < noted.len() && noted[index].is_none() {
+        noted[index] = Some(inst);
     }
 }
 
@@ -110,13 +163,7 @@ fn colour_for(look: Look, link: Option<InstNo>) -> Option<u16>
 }
 
 /// What shows a row at its place.
-pub(crate) fn figure_of(page: &Page<'_>, s: &Shown) -> Path
-    ensures { result ≡ figure_of (view_in page.now) s.now }
-{
-    figure_at(page.place(s.column, s.event.process()), s)
-}
-
-fn figure_at(at: Place, s: &Shown) -> Path
+pub(crate) fn figure_at(at: Place, s: &Shown) -> Path
     ensures { result ≡ figure_at at s.now s.now.event }
 {
     let crossed = s.decision == Some(false);
@@ -174,13 +221,8 @@ pub(crate) fn word_at(page: &Page<'_>, s: &Shown, event: Event) -> Option<Word>
             label(page, s, p, to, Saying::Message(s.row, Some(body)))
         }
         Event::Received { p, from, msg } | Event::Dropped { p, from, msg } => {
-            label(
-                page,
-                s,
-                p,
-                from,
-                Saying::Message(msg.get(), body_of(page, msg)),
-            )
+            let body = body_of(page, msg);
+            label(page, s, p, from, Saying::Message(msg.get(), body))
         }
         Event::Began { inst, kind, .. } => Some(word(page, s, false, Saying::Instance(kind, inst))),
         Event::Decided { .. } => Some(word(page, s, true, Saying::Row(s.row))),

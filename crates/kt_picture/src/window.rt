@@ -1,7 +1,8 @@
-//! What the window of a picture shows: what is known at each of its rows, and the row after it that breaks a rule.
+//! What the window of a picture shows: its lanes, what is known at each of its rows, and the row after it that breaks a rule.
 
-ghost use Rattle.std.specs.Prelude.{◌≡◌, ◌<◌, ◌^◌, ◌+◌, ◌++◌, ◌∷◌, [], ℕ, List, IfOk, OnOk, map, slice_set};
+ghost use Rattle.std.specs.Prelude.{◌≡◌, ◌≤◌, ◌<◌, ◌^◌, ◌+◌, ◌++◌, ◌∷◌, ◌||◌, [], ℕ, List, IfOk, OnOk, filter, length, map, slice_set};
 ghost use Rattle.std.specs.List.{range_with_len};
+ghost use Rattle.kt_base.specs.Sets.{has};
 ghost use Rattle.kt_spacetime.specs.declared.event.Event.{Event};
 ghost use Rattle.kt_spacetime.specs.Events.{process_of};
 ghost use Rattle.kt_meaning.specs.Past.{past};
@@ -9,11 +10,80 @@ ghost use Rattle.kt_walk.specs.WalkOf.{WalkOf};
 ghost use Rattle.kt_picture.specs.Breach.{breach_shown};
 ghost use Rattle.kt_picture.specs.KnownAtRow.{KnownAtRow, cut_in, plain_at, taken_after, places_after, place_after, stretch_from};
 ghost use Rattle.kt_picture.specs.KnownOf.{KnownOf};
+ghost use Rattle.kt_picture.specs.Lanes.{names_process, lane_of};
 
-use kt_base::{InstNo, Memory, ProcNo};
+use kt_base::{InstNo, Memory, ProcNo, ProcSet};
 use kt_spacetime::{Event, Rule};
 use kt_walk::Walk;
 use std::alloc::Global;
+use std::marker::Model;
+
+/// The processes that have a lane, by rising number.
+#[derive(Drop)]
+pub(crate) struct Lanes {
+    processes: Vec<ProcNo>,
+}
+
+impl Model for Lanes {
+    ghost use Rattle.std.specs.Prelude.{ℕ, ◌≤◌, List, length};
+
+    ghost Value = { List ℕ };
+
+    ghost view = { λ l. l.processes.items };
+
+    ghost invariant = { λ l. length l.processes.items ≤ 64 };
+}
+
+impl Lanes {
+    /// A lane for each process that rows name.
+    pub(crate) fn of_named(alloc: Global, named: ProcSet) -> Result<Lanes, Memory>
+        ensures { IfOk result (λ l. l ≡ filter (has named) (range_with_len 0 64)) }
+    {
+        let mut processes = Vec::new(alloc);
+        for number in 0..ProcNo::COUNT {
+            let p = ProcNo::nth(number);
+            if named.has(p) {
+                push_item(&mut processes, p)?;
+            }
+        }
+        Ok(Lanes { processes })
+    }
+
+    /// The processes, by lane.
+    pub(crate) fn processes(&self) -> &[ProcNo]
+        ensures processes { result.now ≡ self.now }
+        ensures few { length result.now ≤ 64 }
+    {
+        self.processes.as_slice()
+    }
+
+    /// How many lanes there are.
+    pub(crate) fn count(&self) -> u8
+        ensures { result ≡ length self.now }
+    {
+        self.processes.len() as u8
+    }
+
+    /// The lane of a process, from 0: how many lanes are of lesser processes.
+    pub(crate) fn of(&self, p: ProcNo) -> u8
+        ensures { result ≡ lane_of self.now p }
+    {
+        let lesser = self.processes.iter().filter(|q| q.get() < p.get());
+        lesser.count() as u8
+    }
+}
+
+/// The processes that rows name, with those that one more row names.
+pub(crate) fn with_named(named: ProcSet, row: &Event) -> ProcSet
+    ensures { (q : ℕ) → has result q ≡ (has named q || names_process q row.now) }
+{
+    match *row {
+        Event::Sent { p, to: peer, .. }
+        | Event::Received { p, from: peer, .. }
+        | Event::Dropped { p, from: peer, .. } => named.with(p).with(peer),
+        _ => named.with(row.process()),
+    }
+}
 
 /// What a row of the window shows, with what became of it by the window's end. Columns are counted from 1; 0 is the
 /// left end.
@@ -56,7 +126,7 @@ pub(crate) struct CutMark {
 }
 
 /// The row that comes after those of a legal log, and the least rule that it breaks.
-#[derive(Clone, Copy, Debug, PartialEq, Eq)]
+#[derive(Clone, Copy)]
 pub struct Breach {
     pub event: Event,
     pub rule: Rule,
@@ -214,6 +284,5 @@ pub(crate) fn push_cut(
 pub(crate) fn push_item<T: Copy>(items: &mut Vec<T>, item: T) -> Result<(), Memory>
     ensures { OnOk result (items.new.items ≡ items.old.items ++ item ∷ []) }
 {
-    items.push(item)?;
-    Ok(())
+    Ok(items.push(item)?)
 }

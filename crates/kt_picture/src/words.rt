@@ -1,41 +1,30 @@
-//! The words of a picture: names, the texts of rows, what stands beside marks, and what is said below.
+//! The words of a picture: names, the texts of rows, why a member took part, what stands beside marks, and what is said below.
 
-ghost use Rattle.std.specs.Prelude.{◌≡◌, ◌++◌, Some, None, IfOk, IfSome, IfNone, OnOk, slice_get, string_bytes};
-ghost use Rattle.kt_plan.specs.Names.{AreNames};
+ghost use Rattle.std.specs.Prelude.{◌≡◌, ◌++◌, IfOk, OnOk, string_bytes};
 ghost use Rattle.kt_log_text.specs.Spelling.{spelling};
 ghost use Rattle.kt_text.specs.Writing.{joined};
 ghost use Rattle.kt_picture.specs.Breach.{caption_of};
+ghost use Rattle.kt_picture.specs.Evidence.{chain_for, chain_of, chain_word, ends_of_message};
+ghost use Rattle.kt_picture.specs.Pages.{reason_in};
 ghost use Rattle.kt_picture.specs.Texts.{drawn, name_text, rule_name, say_class, say_shift};
 
+use crate::rows::Page;
 use crate::window::Breach;
-use kt_base::{Cause, InstNo, Kind, Memory, ProcNo};
+use kt_base::{Cause, InstNo, Kind, Memory, MsgNo, ProcNo};
 use kt_log_text::push_fields;
 use kt_plan::Names;
-use kt_spacetime::{Event, Rule};
+use kt_spacetime::{Certificate, Event, Rule};
 use std::alloc::Global;
 use std::fmt;
 use std::fmt::Write;
 
 /// Gathers the name of a process, or its number where it has none. A name has no letter that is read as a mark.
-#[tactic(auto, using(crate::proofs::EscapeFacts::name_at, crate::proofs::EscapeFacts::number_at))]
 pub(crate) fn push_name(text: &mut String, names: &Names, p: ProcNo) -> Result<(), Memory>
     ensures { OnOk result (string_bytes text.new ≡ string_bytes text.old ++ name_text names.now p) }
 {
-    match name_in(names, p) {
+    match names.list().get(p.index()) {
         Some(name) => Ok(write!(text, "{name}")?),
         None => Ok(write!(text, "{p}")?),
-    }
-}
-
-// The name that a process has.
-fn name_in(names: &Names, p: ProcNo) -> Option<&str>
-    ensures found { IfSome result (λ name. slice_get names.now p ≡ Some name.now) }
-    ensures none { IfNone result (slice_get names.now p ≡ None) }
-    ensures names { AreNames names.now }
-{
-    match names.list().get(p.index()) {
-        Some(name) => Some(name.as_str()),
-        None => None,
     }
 }
 
@@ -45,9 +34,72 @@ pub(crate) fn fields_of(alloc: Global, row: Event) -> Result<String, Memory>
 {
     let mut fields = Vec::new(alloc);
     push_fields(&mut fields, row)?;
-    match String::from_utf8(fields) {
-        Ok(fields) => Ok(fields),
-        Err(_) => Err(Memory),
+    String::from_utf8(fields).or(Err(Memory))
+}
+
+/// Gathers why a process took part that joins an instance by a row.
+pub(crate) fn push_reason(text: &mut String, page: &Page<'_>, row: Event) -> Result<(), Memory>
+    ensures { OnOk result (string_bytes text.new ≡ string_bytes text.old ++ reason_in page.now row) }
+{
+    let chain = chain_of(page.certificates, row);
+    if chain.is_empty() {
+        return Ok(());
+    }
+    write!(text, "; took part because of")?;
+    for msg in chain {
+        push_link(text, page, *msg)?;
+    }
+    Ok(())
+}
+
+// The chain by which a process joins an instance in a row, as certificates list it.
+fn chain_of(certificates: &[Certificate], row: Event) -> &[MsgNo]
+    ensures { result.now ≡ chain_of certificates.now row }
+{
+    match row {
+        Event::Took { p, inst } | Event::Ready { p, inst } => chain_for(certificates, inst, p),
+        _ => &[],
+    }
+}
+
+// The chain that the first certificate of an instance lists for a process.
+fn chain_for(certificates: &[Certificate], inst: InstNo, p: ProcNo) -> &[MsgNo]
+    ensures { result.now ≡ chain_for certificates.now inst p }
+{
+    match certificates.iter().find(|c| c.inst == inst) {
+        Some(certificate) => match certificate.members.list().iter().find(|m| m.0 == p) {
+            Some(member) => member.1.messages(),
+            None => &[],
+        },
+        None => &[],
+    }
+}
+
+// Gathers a message of a chain: its number, and between whom it went.
+fn push_link(text: &mut String, page: &Page<'_>, msg: MsgNo) -> Result<(), Memory>
+    ensures { OnOk result (string_bytes text.new ≡ string_bytes text.old
+        ++ chain_word page.now.names.now page.now.rows.now msg) }
+{
+    write!(text, " {msg}")?;
+    match page.rows.get(msg.index()) {
+        Some(row) => push_ends(text, page, *row),
+        None => Ok(()),
+    }
+}
+
+// Gathers between whom a message went that this row sent, if it sends one.
+fn push_ends(text: &mut String, page: &Page<'_>, row: Event) -> Result<(), Memory>
+    ensures { OnOk result (string_bytes text.new ≡ string_bytes text.old
+        ++ ends_of_message page.now.names.now (Some row)) }
+{
+    match row {
+        Event::Sent { p, to, .. } => {
+            write!(text, ":")?;
+            push_name(text, page.names, p)?;
+            write!(text, "&gt;")?;
+            push_name(text, page.names, to)
+        }
+        _ => Ok(()),
     }
 }
 

@@ -16,7 +16,7 @@ loop-index-preserved c = λ upto w f.
     let x = c.index-entries-index.result in
     let at = slice_get_read entries (length entries) i x refl c.loop-index-test.true c.index-entries-index.is in
     let rest = drop (i + 1) entries in
-    let mark : c.told.result ≡ told_at upto x.plain (map event_of rest) = c.told.ensures upto w (f i x at) ∙ ap (λ (l : List Entry). told_at upto x.plain (map event_of l)) (take_all (length entries - (i + 1)) rest (omega (arith, length-drop (i + 1) entries))) in
+    let mark : c.told-row.result ≡ told_at upto x.plain (map event_of rest) = c.told-row.ensures upto w (f i x at) ∙ ap (λ (l : List Entry). told_at upto x.plain (map event_of l)) (take_all (length entries - (i + 1)) rest (omega (arith, length-drop (i + 1) entries))) in
     (λ j. (c.in_ok-push_item.ensures ∙ ap (λ (m : Shown). shown ++ m ∷ []) mark) j ++ told_rows upto rest)
     ∙ append_assoc shown (told_at upto x.plain (map event_of rest) ∷ []) (told_rows upto rest)
     ∙ ap (λ (l : List Entry). shown ++ told_rows upto l) (sym (drop_item entries i x at))

@@ -13,4 +13,4 @@ returns-in-Received c =
     let msg = c.in-Received.msg in
     let is : label view s p from (say.Message msg (body_of view msg)) ≡ word_at view s c.args.event =
     elim c.in-Received.is [ inl e ↦ ap (word_at view s) (sym e) | inr e ↦ ap (word_at view s) (sym e) ] in
-    c.label-in-Received.ensures ∙ (λ j. label view s p from (say.Message (c.get.ensures.value j) (c.body_of.ensures j))) ∙ is
+    c.label-in-Received.ensures ∙ (λ j. label view s p from (say.Message (c.get.ensures.value j) (c.body_of-body.ensures j))) ∙ is

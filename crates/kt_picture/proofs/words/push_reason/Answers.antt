@@ -3,7 +3,7 @@ use Rattle.std.specs.Prelude.{if◌then◌else◌}
 use Rattle.std.specs.String.{string_bytes}
 use Rattle.kt_picture.specs.Evidence.{because, chain_word, reason}
 use Rattle.kt_picture.proofs.Gathering.{gathers_item, gathers_all, same_piece, then_piece}
-use Rattle.kt_picture.proofs.evidence.push_reason.Goals as goal
+use Rattle.kt_picture.proofs.words.push_reason.Goals as goal
 
 pub loop-msg-preserved : goal.loop-msg-preserved
 loop-msg-preserved c =

@@ -5,7 +5,7 @@ use Rattle.std.proofs.lemmas.Option.{slice_get_read}
 use Rattle.kt_meaning.proofs.Items.{written}
 use Rattle.kt_picture.specs.Evidence.{has_chained}
 use Rattle.kt_picture.proofs.LinkFacts.{chained_more}
-use Rattle.kt_picture.proofs.evidence.links_of.Goals as goal
+use Rattle.kt_picture.proofs.rows.links_of.Goals as goal
 
 pub loop-certificate-preserved : goal.loop-certificate-preserved
 loop-certificate-preserved c =

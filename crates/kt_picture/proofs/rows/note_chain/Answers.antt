@@ -5,7 +5,7 @@ use Rattle.std.proofs.lemmas.List.Folds.{list_any_more}
 use Rattle.kt_picture.specs.Evidence.{has_message}
 use Rattle.kt_picture.specs.Links.{NotesMore}
 use Rattle.kt_picture.proofs.LinkFacts.{notes_none, notes_next}
-use Rattle.kt_picture.proofs.evidence.note_chain.Goals as goal
+use Rattle.kt_picture.proofs.rows.note_chain.Goals as goal
 
 pub loop-msg-init : goal.loop-msg-init
 loop-msg-init c = notes_none c.args.noted.now c.args.inst

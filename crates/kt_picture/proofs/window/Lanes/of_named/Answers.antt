@@ -3,8 +3,8 @@ use Rattle.std.proofs.lemmas.List.{append-nil}
 use Rattle.std.specs.List.{range_with_len}
 use Rattle.kt_base.specs.Sets.{has}
 use Rattle.kt_picture.proofs.LaneFacts.{lanes_more, few_more}
-use Rattle.kt_picture.proofs.lanes.Lanes.of_named.Goals.{then-has+in_ok-push_item, else-has}
-use Rattle.kt_picture.proofs.lanes.Lanes.of_named.Goals as goal
+use Rattle.kt_picture.proofs.window.Lanes.of_named.Goals.{then-has+in_ok-push_item, else-has}
+use Rattle.kt_picture.proofs.window.Lanes.of_named.Goals as goal
 
 pub loop-number-preserved : goal.loop-number-preserved
 loop-number-preserved c =

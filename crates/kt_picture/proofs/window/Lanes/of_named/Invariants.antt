@@ -1,7 +1,7 @@
 use Rattle.std.proofs.Common.{◌≡◌, ◌≤◌, filter, length}
 use Rattle.std.specs.List.{range_with_len}
 use Rattle.kt_base.specs.Sets.{has}
-use Rattle.kt_picture.proofs.lanes.Lanes.of_named.Given as goal
+use Rattle.kt_picture.proofs.window.Lanes.of_named.Given as goal
 
 abbrev pub invariant-loop-number : goal.invariant-loop-number
 invariant-loop-number l = record {

@@ -1,6 +1,6 @@
 use Rattle.std.proofs.Common.{◌≡◌, ◌<◌, ℕ, suc, None, length, take, get_or}
 use Rattle.kt_picture.specs.Evidence.{chained_by}
-use Rattle.kt_picture.proofs.evidence.links_of.Given as goal
+use Rattle.kt_picture.proofs.rows.links_of.Given as goal
 
 abbrev pub invariant-loop-certificate : goal.invariant-loop-certificate
 invariant-loop-certificate l = record {
