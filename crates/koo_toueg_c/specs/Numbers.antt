@@ -9,9 +9,9 @@ use Rattle.kt_spacetime.specs.declared.verdict.Verdict.TheVariants.{Yes, No}
 use Rattle.kt_spacetime.specs.declared.verdict.Why.{Why}
 use Rattle.kt_spacetime.specs.declared.verdict.Why.TheVariants as why
 use Rattle.kt_spacetime.specs.Rules.{number_of}
-use Rattle.kt_draw.specs.declared.fault.DrawFault.{DrawFault}
-use Rattle.kt_draw.specs.declared.fault.DrawFault.TheVariants as draw
-use Rattle.kt_draw.specs.declared.fault.PictureFault.TheVariants as picture
+use Rattle.kt_draw.specs.declared.span.DrawFault.{DrawFault}
+use Rattle.kt_draw.specs.declared.span.DrawFault.TheVariants as draw
+use Rattle.kt_draw.specs.declared.span.PictureFault.TheVariants as picture
 use Rattle.kt_explain.specs.Answers.{passes}
 use Rattle.kt_explain.specs.declared.answer.Answer.{Answer}
 use Rattle.kt_explain.specs.declared.answer.Answer.TheVariants.{Checked, Unlinked, Open}

@@ -6,7 +6,7 @@ use crate::numbers::Label;
 use std::marker::Model;
 
 /// One process's counter of labels. A label that it gave is never given again.
-#[derive(Debug, Drop)]
+#[derive(Drop)]
 pub struct Labels {
     used: Label,
 }

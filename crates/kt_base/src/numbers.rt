@@ -7,7 +7,7 @@ use std::fmt;
 use std::marker::Model;
 
 /// The number of a process: 0 to 63, in the order in which the processes are declared.
-#[derive(Clone, Copy, Debug, PartialEq, Eq, PartialOrd, Ord, Hash)]
+#[derive(Clone, Copy, Debug, PartialEq, Eq)]
 pub struct ProcNo {
     number: u8,
 }
@@ -78,7 +78,7 @@ impl fmt::Display for ProcNo {
 }
 
 /// The label of an application message, 1 to 2^48 - 1; 0 stands for no label.
-#[derive(Clone, Copy, Debug, PartialEq, Eq, PartialOrd, Ord, Hash)]
+#[derive(Clone, Copy, Debug, PartialEq, Eq)]
 pub struct Label {
     number: u64,
 }
@@ -122,7 +122,7 @@ impl Label {
 }
 
 /// The number of a message, which is the number of its `sent` row: 1 to 2^24.
-#[derive(Clone, Copy, Debug, PartialEq, Eq, PartialOrd, Ord, Hash)]
+#[derive(Clone, Copy, Debug, PartialEq, Eq, PartialOrd, Ord)]
 pub struct MsgNo {
     number: u32,
 }
@@ -195,7 +195,7 @@ impl fmt::Display for MsgNo {
 }
 
 /// The number of a row of a log: 1 to 2^24.
-#[derive(Clone, Copy, Debug, PartialEq, Eq, PartialOrd, Ord, Hash)]
+#[derive(Clone, Copy, Debug, PartialEq, Eq)]
 pub struct RowNo {
     number: u32,
 }
@@ -260,7 +260,7 @@ impl fmt::Display for RowNo {
 }
 
 /// The number of an instance of checkpoint or rollback, in order of beginning: 1 to 4,096.
-#[derive(Clone, Copy, Debug, PartialEq, Eq, PartialOrd, Ord, Hash)]
+#[derive(Clone, Copy, Debug, PartialEq, Eq)]
 pub struct InstNo {
     number: u16,
 }

@@ -8,7 +8,7 @@ use crate::numbers::ProcNo;
 use std::marker::Model;
 
 /// A set of processes, in one machine word.
-#[derive(Clone, Copy, Debug, PartialEq, Eq, Hash)]
+#[derive(Clone, Copy)]
 pub struct ProcSet {
     bits: u64,
 }

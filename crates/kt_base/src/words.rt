@@ -3,14 +3,14 @@
 use crate::numbers::InstNo;
 
 /// What an instance does: take checkpoints, or roll back to them.
-#[derive(Clone, Copy, Debug, PartialEq, Eq, Hash)]
+#[derive(Clone, Copy, Debug, PartialEq, Eq)]
 pub enum Kind {
     Checkpoint,
     Rollback,
 }
 
 /// What a command asks of its process.
-#[derive(Clone, Copy, Debug, PartialEq, Eq, Hash)]
+#[derive(Clone, Copy, Debug, PartialEq, Eq)]
 pub enum Verb {
     Send,
     Checkpoint,
@@ -19,7 +19,7 @@ pub enum Verb {
 }
 
 /// Why a process refuses: it is in another open instance, its object is down, or could not be saved.
-#[derive(Clone, Copy, Debug, PartialEq, Eq, Hash)]
+#[derive(Clone, Copy, Debug, PartialEq, Eq)]
 pub enum Cause {
     Busy(InstNo),
     Down,
@@ -27,7 +27,7 @@ pub enum Cause {
 }
 
 /// How a process stands: the open instance that it is in, whether its object is up, and whether that can be saved.
-#[derive(Clone, Copy, Debug, PartialEq, Eq, Hash)]
+#[derive(Clone, Copy)]
 pub struct Standing {
     pub in_inst: Option<InstNo>,
     pub up: bool,

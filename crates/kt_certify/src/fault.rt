@@ -8,7 +8,7 @@ use kt_spacetime::Unfit;
 use thiserror::Error;
 
 /// Why a stored log was not certified.
-#[derive(Clone, Copy, Debug, PartialEq, Eq, Hash, Error)]
+#[derive(Clone, Copy, Debug, PartialEq, Eq, Error)]
 pub enum StreamFault {
     /// Its text was refused, or there was no memory.
     #[error(transparent)]

@@ -11,7 +11,7 @@ use std::error::Error;
 use std::fmt;
 
 /// Why a certificate text was refused: the first thing wrong, with its record. Records are numbered from 1.
-#[derive(Clone, Copy, Debug, PartialEq, Eq, Hash)]
+#[derive(Clone, Copy, Debug, PartialEq, Eq)]
 pub enum CertTextFault {
     /// The reader failed.
     Read,

@@ -8,7 +8,7 @@ use std::error::Error;
 use std::fmt;
 
 /// Why a step was not made. Its text is the fault's name.
-#[derive(Clone, Copy, Debug, PartialEq, Eq, Hash)]
+#[derive(Clone, Copy, Debug, PartialEq, Eq)]
 pub enum StepFault {
     /// The step is not enabled.
     NotEnabled,

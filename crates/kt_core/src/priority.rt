@@ -1,7 +1,7 @@
 //! Who steps first of those that can step.
 
 /// How well a process steps now, where others can step too: the first of these comes first.
-#[derive(Clone, Copy, Debug, PartialEq, Eq)]
+#[derive(Clone, Copy)]
 pub enum Priority {
     /// Nothing is gained by waiting.
     Now,

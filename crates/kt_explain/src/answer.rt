@@ -8,7 +8,7 @@ use kt_spacetime::{Unfit, Verdict};
 use std::fmt;
 
 /// What is answered to a log.
-#[derive(Clone, Copy, Debug)]
+#[derive(Clone, Copy)]
 pub enum Answer {
     /// What the checker says.
     Checked(Verdict),

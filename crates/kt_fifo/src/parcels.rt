@@ -5,7 +5,7 @@ ghost use Rattle.std.specs.Prelude.{◌≡◌};
 use kt_base::{InstNo, Kind, Label, MsgNo};
 
 /// What one process sends to another: an application message, or a step of an instance.
-#[derive(Clone, Copy, Debug, PartialEq, Eq, Hash)]
+#[derive(Clone, Copy, Debug)]
 pub enum Parcel {
     /// An application message, with its label, its number and its body.
     App {

@@ -11,7 +11,7 @@ use std::fmt;
 
 /// Why a log's text was refused: the first thing wrong, with its row. Rows are numbered from 1, without the
 /// record that names the format.
-#[derive(Clone, Copy, Debug, PartialEq, Eq, Hash)]
+#[derive(Clone, Copy, Debug, PartialEq, Eq)]
 pub enum LogFault {
     /// The reader failed.
     Read,

@@ -11,7 +11,7 @@ use std::error::Error;
 use std::fmt;
 
 /// What is wrong with a row whose text is right.
-#[derive(Clone, Copy, Debug, PartialEq, Eq, Hash)]
+#[derive(Clone, Copy, Debug)]
 pub enum RowFault {
     /// The name that it gives is not the next one of its process.
     Name,
@@ -45,7 +45,7 @@ impl fmt::Display for RowFault {
 /// Why parts were not merged: the first thing wrong in the order of the merged log, with its part.
 ///
 /// A record whose text is wrong has no place in that order: it is met once the row before it in its part was taken.
-#[derive(Clone, Copy, Debug, PartialEq, Eq, Hash)]
+#[derive(Clone, Copy, Debug)]
 pub enum MergeFault {
     /// The writer failed.
     Write,

@@ -10,7 +10,7 @@ use kt_spacetime::{Count, InstName, NamedCause, NamedEvent};
 use std::io::Read;
 
 /// Where the row stands that gives a name.
-#[derive(Clone, Copy, Debug, PartialEq, Eq)]
+#[derive(Clone, Copy)]
 pub enum Giver {
     /// It is the row that was read last of this process's part.
     Last(ProcNo),

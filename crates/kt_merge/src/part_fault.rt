@@ -10,7 +10,7 @@ use std::error::Error;
 use std::fmt;
 
 /// Why a part's text was refused: the first thing wrong, with its record. Records are numbered from 1.
-#[derive(Clone, Copy, Debug, PartialEq, Eq, Hash)]
+#[derive(Clone, Copy, Debug)]
 pub enum PartFault {
     /// The reader failed.
     Read,

@@ -20,7 +20,7 @@ use kt_spacetime::{Count, InstName, NamedCause, NamedEvent, NamedRow};
 use kt_text::fields::{body_of, decision_of, kind_of, process_of};
 
 /// A row of a part: the clock of its process at that time, and the row by names.
-#[derive(Clone, Copy, Debug, PartialEq, Eq, Hash)]
+#[derive(Clone, Copy)]
 pub struct PartRow {
     pub clock: u64,
     pub row: NamedRow,

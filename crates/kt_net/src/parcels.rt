@@ -6,7 +6,7 @@ use kt_base::{Kind, Label};
 use kt_spacetime::{Count, InstName};
 
 /// What one node sends to another: an application message, or a step of an instance, by names.
-#[derive(Clone, Copy, Debug, PartialEq, Eq, Hash)]
+#[derive(Clone, Copy)]
 pub enum NodeParcel {
     /// An application message, by its sender's count of messages.
     App {

@@ -3,7 +3,7 @@
 use kt_spacetime::NamedRow;
 
 /// A row of a process, with the clock of the step that told it.
-#[derive(Clone, Copy, Debug, PartialEq, Eq, Hash)]
+#[derive(Clone, Copy)]
 pub struct ClockedRow {
     pub clock: u64,
     pub row: NamedRow,

@@ -25,7 +25,7 @@ use turns::{carry_out, make_room, turn_among};
 mod turns;
 
 /// What is done next in a cluster, and by whom.
-#[derive(Clone, Copy, Debug, PartialEq, Eq)]
+#[derive(Clone, Copy)]
 pub enum ClusterStep {
     /// A process is told to send a message with this body to another one.
     Send {
@@ -53,7 +53,7 @@ pub enum ClusterStep {
 }
 
 /// Why a cluster does not take a step. It is as it was.
-#[derive(Clone, Copy, Debug, PartialEq, Eq, Error)]
+#[derive(Clone, Copy, Debug, Error)]
 pub enum ClusterFault {
     /// Who is to make the step is none of the processes that there are.
     #[error("unknown")]

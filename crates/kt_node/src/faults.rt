@@ -7,7 +7,7 @@ use kt_base::Memory;
 use thiserror::Error;
 
 /// Why a manager does not take a step. It is as it was.
-#[derive(Clone, Copy, Debug, PartialEq, Eq, Error)]
+#[derive(Clone, Copy, Debug, Error)]
 pub enum ManagerFault {
     /// The other process is none of those that there are.
     #[error("unknown")]

@@ -7,7 +7,7 @@ use crate::node::Envelope;
 use kt_base::{Kind, ProcNo};
 
 /// A command, the first message that a node holds of a process, or a parcel of a process.
-#[derive(Clone, Copy, Debug, PartialEq, Eq)]
+#[derive(Clone, Copy)]
 pub enum Input {
     /// To send a message with this body to a process.
     Send { to: ProcNo, body: i64 },

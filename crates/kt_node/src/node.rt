@@ -34,7 +34,7 @@ const MOST: u64 = u64::MAX - 1;
 
 /// A parcel on its way: which one it is of those from its sender to its receiver, counted from 1, the clock of the step that
 /// put it, and what it is.
-#[derive(Clone, Copy, Debug, PartialEq, Eq)]
+#[derive(Clone, Copy)]
 pub struct Envelope {
     pub number: u64,
     pub clock: u64,
@@ -57,7 +57,7 @@ pub enum Taken {
 }
 
 /// Why a node does not take a step. It is as it was.
-#[derive(Clone, Copy, Debug, PartialEq, Eq, Error)]
+#[derive(Clone, Copy, Debug, Error)]
 pub enum NodeFault {
     /// Parcels of this sender are missing: the next one is the one with this number.
     #[error("gap before {0}")]

@@ -6,7 +6,7 @@ ghost use Rattle.std.specs.Option.{option_map};
 use std::marker::Model;
 
 /// A permanent saved state, and perhaps a tentative one.
-#[derive(Debug, Drop)]
+#[derive(Drop)]
 pub struct Depot {
     permanent: Vec<u8>,
     tentative: Option<Vec<u8>>,

@@ -8,7 +8,7 @@ use std::alloc::AllocError;
 use thiserror::Error;
 
 /// Why an object was not saved: it is not able to now, or there was no memory.
-#[derive(Clone, Copy, Debug, PartialEq, Eq, Hash, Error)]
+#[derive(Clone, Copy, Debug, Error)]
 pub enum SaveFault {
     #[error("not able to save")]
     Unable,
@@ -28,7 +28,7 @@ impl From<AllocError> for SaveFault {
 }
 
 /// Why an object was not restored: the bytes are no saved state of its kind, or there was no memory.
-#[derive(Clone, Copy, Debug, PartialEq, Eq, Hash, Error)]
+#[derive(Clone, Copy, Debug, Error)]
 pub enum RestoreFault {
     #[error("not a saved state of this kind")]
     Form,

@@ -28,7 +28,7 @@ pub struct Held {
 
 /// What an object answers before a step: what the step is given, and the object's saved state, where one was asked for and
 /// the object could be saved.
-#[derive(Debug, Drop)]
+#[derive(Drop)]
 pub struct Answer {
     pub give: Give,
     pub saved: Option<Vec<u8>>,

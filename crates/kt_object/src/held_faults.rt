@@ -7,7 +7,7 @@ use thiserror::Error;
 
 /// Why an act was not done: it does not fit what is held; the permanent state is none that the object takes; or there was no
 /// memory.
-#[derive(Clone, Copy, Debug, PartialEq, Eq, Hash, Error)]
+#[derive(Clone, Copy, Debug, Error)]
 pub enum ActFault {
     #[error("unfit")]
     Unfit,
@@ -33,7 +33,7 @@ impl From<RestoreFault> for ActFault {
 
 /// Why objects are refused: there is another number of processes, or of one process's objects; a process has an object of
 /// another kind; a process's object is not able to be saved; or there was no memory.
-#[derive(Clone, Copy, Debug, PartialEq, Eq, Hash, Error)]
+#[derive(Clone, Copy, Debug, Error)]
 pub enum CastFault {
     #[error("another number of objects")]
     Size,

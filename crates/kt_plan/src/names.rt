@@ -64,7 +64,7 @@ fn place_among(texts: &[String], word: &[u8]) -> Option<usize>
 const FEW: usize = 8;
 
 /// At most 64 names of processes, all different, numbered from 0 in the order in which they came.
-#[derive(Debug, Drop)]
+#[derive(Drop)]
 pub struct Names {
     set: IndexSet<String>,
 }

@@ -14,7 +14,7 @@ use std::marker::Model;
 ///
 /// There are at most 64 processes and 4,096 commands. Each process that a command names is there, none sends to
 /// itself, and phases never fall.
-#[derive(Debug, Drop)]
+#[derive(Drop)]
 pub struct Plan {
     pub names: Names,
     pub kinds: Vec<u8>,

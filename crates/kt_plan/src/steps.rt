@@ -13,7 +13,7 @@ pub enum Step {
 }
 
 /// What a step is given by the process's object.
-#[derive(Clone, Copy, Debug, PartialEq, Eq)]
+#[derive(Clone, Copy)]
 pub struct Give {
     /// Whether the object was saved; it counts only where the step needs a save.
     pub able: bool,
@@ -22,7 +22,7 @@ pub struct Give {
 }
 
 /// What a step needs of the process's object.
-#[derive(Clone, Copy, Debug, PartialEq, Eq)]
+#[derive(Clone, Copy)]
 pub enum Look {
     /// The step is not enabled.
     Idle,
@@ -35,7 +35,7 @@ pub enum Look {
 }
 
 /// What a process is to do to its object and its saved states after a step.
-#[derive(Clone, Copy, Debug, PartialEq, Eq)]
+#[derive(Clone, Copy)]
 pub enum Act {
     /// Nothing.
     Nothing,
@@ -54,7 +54,7 @@ pub enum Act {
 }
 
 /// What a step did: its rows with their numbers, in order, and what is to be done to the object, in order.
-#[derive(Clone, Copy, Debug, PartialEq, Eq)]
+#[derive(Clone, Copy)]
 pub struct Told {
     pub step: Step,
     pub rows: [Option<(RowNo, Event)>; 4],

@@ -7,8 +7,8 @@ use Rattle.kt_log_text.specs.declared.fault.LogFault.TheVariants.{Read, TooLong,
 use Rattle.kt_spacetime.specs.declared.event.Event.{Event}
 use Rattle.kt_spacetime.specs.declared.certificate.Certificate.{Certificate}
 use Rattle.kt_checker.specs.Streamed.{SaysRows}
-use Rattle.kt_draw.specs.declared.fault.DrawFault.{DrawFault}
-use Rattle.kt_draw.specs.declared.fault.DrawFault.TheVariants as draw
+use Rattle.kt_draw.specs.declared.span.DrawFault.{DrawFault}
+use Rattle.kt_draw.specs.declared.span.DrawFault.TheVariants as draw
 use Rattle.kt_draw.specs.declared.span.Span.{Span}
 use Rattle.kt_draw.specs.Drawn.{IsNoPictureOf, IsPictureOf, IsUndrawnLog}
 use Rattle.kt_program.specs.declared.fault.AppFault.{AppFault}

@@ -6,8 +6,8 @@ use Rattle.kt_log_text.specs.declared.fault.LogFault.TheVariants as log
 use Rattle.kt_log_text.specs.Texts as texts
 use Rattle.kt_spacetime.specs.declared.certificate.Certificate.{Certificate}
 use Rattle.kt_checker.specs.Streamed.{SaysRows}
-use Rattle.kt_draw.specs.declared.fault.DrawFault.{DrawFault}
-use Rattle.kt_draw.specs.declared.fault.DrawFault.TheVariants as draw
+use Rattle.kt_draw.specs.declared.span.DrawFault.{DrawFault}
+use Rattle.kt_draw.specs.declared.span.DrawFault.TheVariants as draw
 use Rattle.kt_draw.specs.declared.span.Span.{Span}
 use Rattle.kt_draw.specs.Drawn.{IsCertifiedPicture, IsNoPicture, IsPicture, IsPictureOf}
 use Rattle.kt_plan.specs.Limits.{Planned}

@@ -152,7 +152,7 @@ const MERGED: &str = "Where the log is written, in format 2, else to standard ou
 const HINTS: &str = "Tells below a fault's line what is wrong, and where";
 
 /// Why a command line was refused.
-#[derive(Debug, Drop)]
+#[derive(Drop)]
 pub enum AskFault<'a> {
     /// As clap says; want of memory has the kind `OutOfMemory`, and a request for help is one that clap answers.
     Line(Error),

@@ -17,7 +17,7 @@ use std::io::Write;
 const MAX_LINE: usize = 128;
 
 /// What the program did.
-#[derive(Clone, Copy, Debug, PartialEq, Eq)]
+#[derive(Clone, Copy)]
 pub enum Done {
     /// It wrote the answer to a stored log; true for a yes.
     Judged(bool),

@@ -25,7 +25,7 @@ use kt_threads::LiveFault;
 use thiserror::Error;
 
 /// Why a run was not played, a stored run not judged, certified or drawn, or parts were not merged.
-#[derive(Clone, Copy, Debug, PartialEq, Eq, Hash, Error)]
+#[derive(Clone, Copy, Debug, Error)]
 pub enum AppFault {
     /// The log's text was refused.
     #[error(transparent)]
@@ -182,7 +182,7 @@ impl From<WriteFault> for AppFault {
 }
 
 /// Why the program did not do what it was asked. Its text is the program's fault line, without the program's name.
-#[derive(Clone, Copy, Debug, PartialEq, Eq, Error)]
+#[derive(Clone, Copy, Debug, Error)]
 pub enum ProgramFault {
     /// The words of the command line were refused.
     #[error("command line refused")]

@@ -1,7 +1,7 @@
 //! What may stand in the way of a step.
 
 /// What stands in the way of a step that is not enabled.
-#[derive(Clone, Copy, Debug, PartialEq, Eq)]
+#[derive(Clone, Copy)]
 pub enum Hindrance {
     /// The process has no command left.
     NoCommand,

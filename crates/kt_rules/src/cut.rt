@@ -6,7 +6,7 @@ use kt_base::ProcNo;
 use std::marker::Model;
 
 /// A cut: for each of the 64 processes the length of the part of its live history that the cut keeps.
-#[derive(Clone, Copy, Debug, PartialEq, Eq)]
+#[derive(Clone, Copy)]
 pub struct Cut {
     lengths: [usize; 64],
 }

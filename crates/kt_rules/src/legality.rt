@@ -8,7 +8,7 @@ use kt_spacetime::Rule;
 use thiserror::Error;
 
 /// Why a log was not found legal.
-#[derive(Clone, Copy, Debug, PartialEq, Eq, Hash, Error)]
+#[derive(Clone, Copy, Debug, Error)]
 pub enum LegalFault {
     /// This row is the first that breaks a rule, and this the least rule that it breaks.
     #[error("row {0} breaks rule {1}")]

@@ -3,7 +3,7 @@
 use kt_base::ProcNo;
 
 /// A message, and the places of its send and its receive in the live histories, counted from 1.
-#[derive(Clone, Copy, Debug, PartialEq, Eq)]
+#[derive(Clone, Copy, PartialEq, Eq)]
 pub struct Trace {
     pub from: ProcNo,
     pub to: ProcNo,

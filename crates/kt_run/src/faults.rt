@@ -12,7 +12,7 @@ use kt_object::{ActFault, CastFault};
 use std::fmt;
 
 /// Why a run came to no end. Its text is the program's fault line, without the program's name.
-#[derive(Clone, Copy, Debug, PartialEq, Eq, Hash)]
+#[derive(Clone, Copy, Debug)]
 pub enum RunFault {
     /// There is another number of processes, or of one process's objects, than the plan asks for.
     CastSize,

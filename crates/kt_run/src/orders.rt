@@ -16,7 +16,7 @@ use rand_xoshiro::Xoshiro256PlusPlus;
 const MOST_WORDS: u32 = 64;
 
 /// In which order the steps of a run are made, once those that are given have been made.
-#[derive(Clone, Copy, Debug, PartialEq, Eq)]
+#[derive(Clone, Copy)]
 pub enum Order {
     /// Default steps.
     Default,

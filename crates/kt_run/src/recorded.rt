@@ -25,7 +25,7 @@ use kt_spacetime::SpaceTime;
 use std::alloc::Global;
 
 /// What is kept of a run, beside its log.
-#[derive(Clone, Copy, Debug, PartialEq, Eq)]
+#[derive(Clone, Copy, PartialEq, Eq)]
 pub enum Keep {
     /// Nothing.
     Log,
@@ -80,7 +80,7 @@ pub struct RecordedRun {
 }
 
 /// Why a run came to no end; where a step was not enabled, what stood in its way.
-#[derive(Clone, Copy, Debug, PartialEq, Eq)]
+#[derive(Clone, Copy)]
 pub struct Stop {
     pub fault: RunFault,
     pub hindrance: Option<Hindrance>,

@@ -63,7 +63,7 @@ impl<T: Drop> From<AllocFailed<T>> for StepLineFault {
 }
 
 /// Why a scenario was refused: the first thing wrong, with its line. Lines are numbered from 1.
-#[derive(Clone, Copy, Debug, PartialEq, Eq, Error)]
+#[derive(Clone, Copy, Debug, Error)]
 pub enum ScenarioFault {
     /// The text has more than 2^20 bytes.
     #[error("too long")]
@@ -142,7 +142,7 @@ impl ScenarioFault {
 }
 
 /// Why a text of steps was refused: the first thing wrong, with its line. Lines are numbered from 1.
-#[derive(Clone, Copy, Debug, PartialEq, Eq, Error)]
+#[derive(Clone, Copy, Debug, Error)]
 pub enum StepsFault {
     /// The text has more than 2^26 bytes.
     #[error("too long")]

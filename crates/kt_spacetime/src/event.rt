@@ -10,7 +10,7 @@ use kt_base::{Cause, InstNo, Kind, MsgNo, ProcNo, Verb};
 /// What one process did in one row of a log.
 ///
 /// `p` is the process. A message is named by the number of its `Sent` row.
-#[derive(Clone, Copy, Debug, PartialEq, Eq, Hash)]
+#[derive(Clone, Copy, Debug, PartialEq, Eq)]
 pub enum Event {
     /// It sent a message with this body.
     Sent {

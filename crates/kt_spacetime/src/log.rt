@@ -9,7 +9,7 @@ use std::alloc::Global;
 use std::marker::Model;
 
 /// The rows of a log in order, numbered from 1, at most 2^24, with room set aside for some more.
-#[derive(Debug, Drop)]
+#[derive(Drop)]
 pub struct SpaceTime {
     rows: Vec<Event>,
     spare: usize,

@@ -10,7 +10,7 @@ use crate::names::{Count, InstName};
 use kt_base::{Kind, ProcNo, Verb};
 
 /// Why a process refuses, where the instance that it is in has a name.
-#[derive(Clone, Copy, Debug, PartialEq, Eq, Hash)]
+#[derive(Clone, Copy)]
 pub enum NamedCause {
     Busy(InstName),
     Down,
@@ -20,7 +20,7 @@ pub enum NamedCause {
 /// What one process did in one row, by names.
 ///
 /// A message is named by its sender and the count of the sender's messages.
-#[derive(Clone, Copy, Debug, PartialEq, Eq, Hash)]
+#[derive(Clone, Copy)]
 pub enum NamedEvent {
     /// It sent a message with this body, and counts it by this label.
     Sent { to: ProcNo, body: i64, label: Count },
@@ -47,7 +47,7 @@ pub enum NamedEvent {
 }
 
 /// A row by names: whose it is, and what it says.
-#[derive(Clone, Copy, Debug, PartialEq, Eq, Hash)]
+#[derive(Clone, Copy)]
 pub struct NamedRow {
     pub p: ProcNo,
     pub event: NamedEvent,

@@ -7,7 +7,7 @@ use kt_base::ProcNo;
 use std::marker::Model;
 
 /// Which one of those that its process sent or began: 1 to 2^48 - 1.
-#[derive(Clone, Copy, Debug, PartialEq, Eq, PartialOrd, Ord, Hash)]
+#[derive(Clone, Copy, PartialEq, Eq)]
 pub struct Count {
     number: u64,
 }
@@ -69,7 +69,7 @@ impl Count {
 }
 
 /// An instance: which one of those that its initiator began.
-#[derive(Clone, Copy, Debug, PartialEq, Eq, Hash)]
+#[derive(Clone, Copy)]
 pub struct InstName {
     pub initiator: ProcNo,
     pub count: Count,

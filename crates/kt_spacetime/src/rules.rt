@@ -6,7 +6,7 @@ ghost use Rattle.kt_spacetime.specs.Rules.{number_of};
 use std::fmt;
 
 /// The rules that each row of a legal log keeps, in the order in which they are tested.
-#[derive(Clone, Copy, Debug, PartialEq, Eq, Hash)]
+#[derive(Clone, Copy, Debug, PartialEq, Eq)]
 pub enum Rule {
     /// An instance that is named has begun, one that begins takes the next number; a peer is another process.
     Numbers,

@@ -9,7 +9,7 @@ use std::fmt;
 use thiserror::Error;
 
 /// Why a log was not certified.
-#[derive(Clone, Copy, Debug, PartialEq, Eq, Hash, Error)]
+#[derive(Clone, Copy, Debug, Error)]
 pub enum CertFault {
     /// This row is the first that breaks a rule, and this the least rule that it breaks.
     #[error("row {0} breaks rule {1}")]
@@ -23,7 +23,7 @@ pub enum CertFault {
 }
 
 /// Why a log has no certificates.
-#[derive(Clone, Copy, Debug, PartialEq, Eq, Hash)]
+#[derive(Clone, Copy, Debug, PartialEq, Eq)]
 pub enum Unfit {
     /// This row is the first that breaks a rule, and this the least rule that it breaks.
     BadLog(RowNo, Rule),

@@ -9,7 +9,7 @@ use kt_base::{InstNo, RowNo};
 use std::fmt;
 
 /// Why the checker says no.
-#[derive(Clone, Copy, Debug, PartialEq, Eq, Hash)]
+#[derive(Clone, Copy)]
 pub enum Why {
     /// The log is not legal: the row breaks this rule.
     BadLog(Rule),
@@ -28,7 +28,7 @@ pub enum Why {
 }
 
 /// What the checker answers of a log and a list of certificates.
-#[derive(Clone, Copy, Debug, PartialEq, Eq, Hash)]
+#[derive(Clone, Copy)]
 pub enum Verdict {
     Yes,
     /// The first fault, with the instance and the row where there is one.

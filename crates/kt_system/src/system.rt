@@ -27,7 +27,7 @@ mod replies;
 mod takes;
 
 /// How many asks, replies and decisions of an instance were put into channels.
-#[derive(Clone, Copy, Debug, PartialEq, Eq)]
+#[derive(Clone, Copy)]
 pub struct Tally {
     pub asks: u32,
     pub replies: u32,

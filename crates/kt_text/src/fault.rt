@@ -9,7 +9,7 @@ use kt_base::Memory;
 use thiserror::Error;
 
 /// Why there is no next record.
-#[derive(Clone, Copy, Debug, PartialEq, Eq, Hash, Error)]
+#[derive(Clone, Copy, Debug, Error)]
 pub enum ReadFault {
     /// The reader failed.
     #[error("read fault")]
@@ -32,7 +32,7 @@ impl From<csv::Error> for ReadFault {
 }
 
 /// Why a text was not written. Part of it may be.
-#[derive(Clone, Copy, Debug, PartialEq, Eq, Hash, Error)]
+#[derive(Clone, Copy, Debug, Error)]
 pub enum WriteFault {
     /// The writer failed.
     #[error("write fault")]

@@ -4,7 +4,7 @@ use kt_base::ProcNo;
 use kt_plan::Act;
 
 /// What a step asked of its process's object: the body that it offered, where it was asked for one, and the acts that it did.
-#[derive(Clone, Copy, Debug, PartialEq, Eq)]
+#[derive(Clone, Copy)]
 pub struct Errand {
     pub offered: Option<i64>,
     pub acts: [Act; 2],

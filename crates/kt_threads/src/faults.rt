@@ -12,7 +12,7 @@ use std::alloc::AllocError;
 use std::fmt;
 
 /// Why processes in threads came to no end. Its text is the program's fault line, without the program's name.
-#[derive(Clone, Copy, Debug, PartialEq, Eq, Hash)]
+#[derive(Clone, Copy, Debug, PartialEq, Eq)]
 pub enum LiveFault {
     /// There is another number of processes, or of one process's objects, than the plan asks for.
     CastSize,

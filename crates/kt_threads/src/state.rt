@@ -21,7 +21,7 @@ use std::marker::Model;
 use std::snapshot::Snapshot;
 
 /// A step that was made: what it needed, what it was given, and what it told.
-#[derive(Clone, Copy, Debug, PartialEq, Eq)]
+#[derive(Clone, Copy)]
 pub struct Made {
     pub look: Look,
     pub give: Give,
