@@ -13,7 +13,7 @@ use Rattle.kt_meaning.proofs.Items.{get_left, get_seam}
 use Rattle.kt_spacetime.specs.declared.certificate.Certificate.{Certificate}
 use Rattle.kt_walk.specs.WalkOf.{WalkOf}
 use Rattle.kt_walk.specs.WalkParts.{WalkParts}
-use Rattle.kt_picture.specs.declared.window.Breach.{Breach}
+use Rattle.kt_picture.specs.declared.window.BrokenRow.{BrokenRow}
 use Rattle.kt_picture.specs.declared.diagram.Diagram.{Diagram}
 use Rattle.kt_picture.specs.declared.diagram.Sheet.{Sheet}
 use Rattle.kt_picture.specs.DiagramOf.{DiagramOf, HasRowsFor, SheetOf}
@@ -139,7 +139,7 @@ broken_more s (row ∷ rows) more x e = at_rule (broken_rule s row) (broken_more
     at_rule (Some rule) next h = h
 
 -- after a row that breaks a rule reading goes no further
-read_on : (rows : List Event) (row : Event) (kept : ℕ) (b : Option Breach) → (b ≡ None → ⊥) → IsReadTo rows kept b → IsReadTo (rows ++ row ∷ []) kept b
+read_on : (rows : List Event) (row : Event) (kept : ℕ) (b : Option BrokenRow) → (b ≡ None → ⊥) → IsReadTo rows kept b → IsReadTo (rows ++ row ∷ []) kept b
 read_on rows row kept None some h = absurd (some refl)
 read_on rows row kept (Some b) some h = record {
   legal = subst IsLegal (sym (take-append-le kept rows (row ∷ []) h.within)) h.legal;
@@ -148,7 +148,7 @@ read_on rows row kept (Some b) some h = record {
 }
 
 -- while no row breaks a rule all rows are kept
-all_kept : (rows kept : List Event) (b : Option Breach) → b ≡ None → take (length kept) rows ≡ kept → IsReadTo rows (length kept) b → kept ≡ rows
+all_kept : (rows kept : List Event) (b : Option BrokenRow) → b ≡ None → take (length kept) rows ≡ kept → IsReadTo rows (length kept) b → kept ≡ rows
 all_kept rows kept None none front h = sym front ∙ take_all (length kept) rows (omega (arith, h.stops))
 all_kept rows kept (Some b) none front h = absurd (cc)
 
@@ -161,7 +161,7 @@ module _ (r s : Reading) (span : Span) (rows : List Event) (row : Event) (h : Re
       record {
         kept = rows ++ row ∷ [];
         front = take_all (length (rows ++ row ∷ [])) (rows ++ row ∷ []) (omega arith);
-        read = subst (λ (b : Option Breach). IsReadTo (rows ++ row ∷ []) (length (rows ++ row ∷ [])) b) (sym (same ∙ none)) (reads_whole (rows ++ row ∷ []) (length (rows ++ row ∷ [])) followed.walk.control.legal refl);
+        read = subst (λ (b : Option BrokenRow). IsReadTo (rows ++ row ∷ []) (length (rows ++ row ∷ [])) b) (sym (same ∙ none)) (reads_whole (rows ++ row ∷ []) (length (rows ++ row ∷ [])) followed.walk.control.legal refl);
         count = omega (arith, counted, h.count, length_push rows row);
         followed = followed;
         before = before ∙ h.before;
@@ -179,7 +179,7 @@ module _ (r s : Reading) (span : Span) (rows : List Event) (row : Event) (h : Re
       record {
         kept = rows;
         front = take-append_seam rows (row ∷ []);
-        read = subst (λ (b : Option Breach). IsReadTo (rows ++ row ∷ []) (length rows) b) (sym is) (reads_front (rows ++ row ∷ []) (length rows) number row rule first at (get_seam rows row []));
+        read = subst (λ (b : Option BrokenRow). IsReadTo (rows ++ row ∷ []) (length rows) b) (sym is) (reads_front (rows ++ row ∷ []) (length rows) number row rule first at (get_seam rows row []));
         count = omega (arith, counted, h.count, length_push rows row);
         followed = still rows was;
         before = before ∙ h.before;
@@ -191,7 +191,7 @@ module _ (r s : Reading) (span : Span) (rows : List Event) (row : Event) (h : Re
   reading_on some same still = record {
     kept = h.kept;
     front = take-append-le (length h.kept) rows (row ∷ []) h.read.within ∙ h.front;
-    read = subst (λ (b : Option Breach). IsReadTo (rows ++ row ∷ []) (length h.kept) b) (sym same) (read_on rows row (length h.kept) r.breach some h.read);
+    read = subst (λ (b : Option BrokenRow). IsReadTo (rows ++ row ∷ []) (length h.kept) b) (sym same) (read_on rows row (length h.kept) r.breach some h.read);
     count = omega (arith, counted, h.count, length_push rows row);
     followed = subst (λ (f : Followed). FollowedOf f h.kept) (sym still) h.followed;
     before = before ∙ h.before;
@@ -203,7 +203,7 @@ pub reading_none : (r : Reading) (span : Span) → r.breach ≡ None → r.count
 reading_none r span none count followed before last = record {
   kept = [];
   front = refl;
-  read = subst (λ (b : Option Breach). IsReadTo [] 0 b) (sym none) (reads_whole [] 0 followed.walk.control.legal refl);
+  read = subst (λ (b : Option BrokenRow). IsReadTo [] 0 b) (sym none) (reads_whole [] 0 followed.walk.control.legal refl);
   count = count;
   followed = followed;
   before = before;
@@ -289,12 +289,12 @@ reading_undrawn span r rows kept count seen why h kept_is count_is seen_is none 
     not_pictured [] span rows kept count seen r.breach (subst (λ (n : ℕ). IsReadTo rows n r.breach) (sym kept_is) h.read) (count_is ∙ h.count) seen_is why none
 
 -- the row that breaks a rule, where it is one of the picture, and where it is none
-pub drawn_then : (kept last : ℕ) (breach drawn : Option Breach) → kept < last → drawn ≡ breach → drawn ≡ breach_drawn kept last breach
+pub drawn_then : (kept last : ℕ) (breach drawn : Option BrokenRow) → kept < last → drawn ≡ breach → drawn ≡ breach_drawn kept last breach
 drawn_then kept last breach drawn low is =
     let test : nat_lt kept last ≡ true = grind (arith, nat_tests) in
     is ∙ ap (λ (b : Bool). if b then breach else None) (sym test)
 
-pub drawn_else : (kept last : ℕ) (breach drawn : Option Breach) → last ≤ kept → drawn ≡ None → drawn ≡ breach_drawn kept last breach
+pub drawn_else : (kept last : ℕ) (breach drawn : Option BrokenRow) → last ≤ kept → drawn ≡ None → drawn ≡ breach_drawn kept last breach
 drawn_else kept last breach drawn high is =
     let test : nat_lt kept last ≡ false = grind (arith, nat_tests) in
     is ∙ ap (λ (b : Bool). if b then breach else None) (sym test)

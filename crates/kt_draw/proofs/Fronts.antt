@@ -9,8 +9,8 @@ use Rattle.kt_meaning.specs.Past.{Past, start, after}
 use Rattle.kt_meaning.specs.Legal.{IsLegal, IsLegalAfter, broken_rule, first_broken, first_broken_after, or_later}
 use Rattle.kt_meaning.proofs.Items.{some_same}
 use Rattle.kt_spacetime.specs.declared.certificate.Certificate.{Certificate}
-use Rattle.kt_picture.specs.declared.window.Breach.{Breach}
-use Rattle.kt_picture.specs.Breach.{breach_columns}
+use Rattle.kt_picture.specs.declared.window.BrokenRow.{BrokenRow}
+use Rattle.kt_picture.specs.BrokenRow.{breach_columns}
 use Rattle.kt_draw.specs.declared.span.Span.{Span}
 use Rattle.kt_draw.specs.declared.span.PictureFault.{PictureFault}
 use Rattle.kt_draw.specs.Drawn.{HasRows, IsDrawn, IsNoPicture, IsNoWindow, IsPictureTo, IsReadTo, IsShort, drawn_text, first_row, last_row, line_below, rows_seen}
@@ -72,7 +72,7 @@ reads_front log kept n event rule broken number there =
     }
 
 -- a row that breaks a rule takes one column
-pub one_column : (b : Option Breach) → breach_columns b ≤ 1
+pub one_column : (b : Option BrokenRow) → breach_columns b ≤ 1
 one_column None = omega arith
 one_column (Some b) = omega arith
 
@@ -85,7 +85,7 @@ last_seen seen (Some n) = at_test (nat_lt n seen) refl
     at_test true e = omega (arith, ltb-true n seen e)
     at_test false e = omega arith
 
-module _ (names : List (List ℕ)) (span : Span) (log : List Event) (kept count seen : ℕ) (b : Option Breach) (read : IsReadTo log kept b) (counted : count ≡ length log) (last_read : seen ≡ rows_seen kept b) where
+module _ (names : List (List ℕ)) (span : Span) (log : List Event) (kept count seen : ℕ) (b : Option BrokenRow) (read : IsReadTo log kept b) (counted : count ≡ length log) (last_read : seen ≡ rows_seen kept b) where
   -- the picture of a window is that of the rows that are asked for
   pub pictured : (certificates : List Certificate) (orphan : Option ℕ) (line : List ℕ) (first last : ℕ) (text : List ℕ) → first ≡ first_row span.from → last ≡ last_row seen span.to → HasRows count seen span → IsShort seen span
       → text ≡ drawn_text names log kept b first last certificates orphan line → IsPictureTo names span log kept b certificates orphan line text
@@ -105,7 +105,7 @@ module _ (names : List (List ℕ)) (span : Span) (log : List Event) (kept count 
   }
 
 -- a picture of a log that is read so far, with this line below, if there is one
-pub told_drawn : (names : List (List ℕ)) (span : Span) (log : List Event) (kept : ℕ) (b : Option Breach) (certificates : List Certificate) (orphan : Option ℕ) (line : Option (List ℕ)) (below text : List ℕ) → IsReadTo log kept b
+pub told_drawn : (names : List (List ℕ)) (span : Span) (log : List Event) (kept : ℕ) (b : Option BrokenRow) (certificates : List Certificate) (orphan : Option ℕ) (line : Option (List ℕ)) (below text : List ℕ) → IsReadTo log kept b
     → below ≡ line_below kept b line → IsPictureTo names span log kept b certificates orphan below text → IsDrawn names span log certificates orphan line text
 told_drawn names span log kept b certificates orphan line below text read e h = record {
   kept = kept;

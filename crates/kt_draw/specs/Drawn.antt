@@ -15,8 +15,8 @@ use Rattle.kt_spacetime.specs.Verdicts.{verdict_words}
 use Rattle.kt_explain.specs.declared.explanation.Explanation.{Explanation}
 use Rattle.kt_explain.specs.declared.explanation.Explanation.TheVariants.{Orphan}
 use Rattle.kt_explain.specs.Told.{IsExplanation}
-use Rattle.kt_picture.specs.declared.window.Breach.{Breach}
-use Rattle.kt_picture.specs.Breach.{breach_columns, caption_of}
+use Rattle.kt_picture.specs.declared.window.BrokenRow.{BrokenRow}
+use Rattle.kt_picture.specs.BrokenRow.{breach_columns, caption_of}
 use Rattle.kt_picture.specs.Picture.{picture_of}
 use Rattle.kt_draw.specs.declared.span.DrawFault.{DrawFault}
 use Rattle.kt_draw.specs.declared.span.DrawFault.TheVariants as draw
@@ -59,18 +59,18 @@ IsNoWindow count seen span NoRows = ¬ HasRows count seen span
 IsNoWindow count seen span TooLong = HasRows count seen span × ¬ IsShort seen span
 
 -- where reading a log as rows stops: behind its last row, or at the first row that breaks a rule
-abbrev pub EndsReading : List Event → ℕ → Option Breach → Type 0
+abbrev pub EndsReading : List Event → ℕ → Option BrokenRow → Type 0
 EndsReading log kept None = kept ≡ length log
 EndsReading log kept (Some b) = (first_broken log ≡ Some (kept + 1, b.rule)) × (slice_get log kept ≡ Some b.event)
 
 -- so many rows of a log are legal, and there reading it as rows stops
-pub record IsReadTo (log : List Event) (kept : ℕ) (breach : Option Breach) : Type 0 where
+pub record IsReadTo (log : List Event) (kept : ℕ) (breach : Option BrokenRow) : Type 0 where
   pub legal : IsLegal (take kept log)
   pub within : kept ≤ length log
   pub stops : EndsReading log kept breach
 
 -- how many rows are read: those that are legal, and the one that breaks a rule
-abbrev pub rows_seen : ℕ → Option Breach → ℕ
+abbrev pub rows_seen : ℕ → Option BrokenRow → ℕ
 rows_seen kept breach = kept + breach_columns breach
 
 -- how many rows are drawn as rows where the last one of the picture has this number, and so many are legal
@@ -78,23 +78,23 @@ abbrev pub rows_drawn : ℕ → ℕ → ℕ
 rows_drawn kept last = if nat_lt kept last then kept else last
 
 -- the row that breaks a rule, where it is one of the picture
-abbrev pub breach_drawn : ℕ → ℕ → Option Breach → Option Breach
+abbrev pub breach_drawn : ℕ → ℕ → Option BrokenRow → Option BrokenRow
 breach_drawn kept last breach = if nat_lt kept last then breach else None
 
 -- the picture of a log from one row to another, with the names of processes, what certificates tell of it, the orphan that
 -- stands out, and the line below
-abbrev pub drawn_text : List (List ℕ) → List Event → ℕ → Option Breach → ℕ → ℕ → List Certificate → Option ℕ → List ℕ → List ℕ
+abbrev pub drawn_text : List (List ℕ) → List Event → ℕ → Option BrokenRow → ℕ → ℕ → List Certificate → Option ℕ → List ℕ → List ℕ
 drawn_text names log kept breach first last certificates orphan line =
     picture_of names (take (rows_drawn kept last) log) (first - 1) (breach_drawn kept last breach) certificates orphan line
 
 -- a text is the picture of the rows that are asked for, of a log that is read so far
-pub record IsPictureTo (names : List (List ℕ)) (span : Span) (log : List Event) (kept : ℕ) (breach : Option Breach) (certificates : List Certificate) (orphan : Option ℕ) (line text : List ℕ) : Type 0 where
+pub record IsPictureTo (names : List (List ℕ)) (span : Span) (log : List Event) (kept : ℕ) (breach : Option BrokenRow) (certificates : List Certificate) (orphan : Option ℕ) (line text : List ℕ) : Type 0 where
   pub there : HasRows (length log) (rows_seen kept breach) span
   pub short : IsShort (rows_seen kept breach) span
   pub text_is : text ≡ drawn_text names log kept breach (first_row span.from) (last_row (rows_seen kept breach) span.to) certificates orphan line
 
 -- the line below a picture: this one, if there is one, else that the log is legal, or which row breaks which rule
-abbrev pub line_below : ℕ → Option Breach → Option (List ℕ) → List ℕ
+abbrev pub line_below : ℕ → Option BrokenRow → Option (List ℕ) → List ℕ
 line_below kept breach None = caption_of (kept + 1) breach
 line_below kept breach (Some line) = line
 
@@ -102,7 +102,7 @@ line_below kept breach (Some line) = line
 -- is one
 pub record IsDrawn (names : List (List ℕ)) (span : Span) (log : List Event) (certificates : List Certificate) (orphan : Option ℕ) (line : Option (List ℕ)) (text : List ℕ) : Type 0 where
   pub kept : ℕ
-  pub breach : Option Breach
+  pub breach : Option BrokenRow
   pub read : IsReadTo log kept breach
   pub drawn : IsPictureTo names span log kept breach certificates orphan (line_below kept breach line) text
 
@@ -144,7 +144,7 @@ pub record IsCertifiedPicture (names : List (List ℕ)) (span : Span) (log : Lis
 -- why a log has no such picture
 pub record IsNoPicture (span : Span) (log : List Event) (why : PictureFault) : Type 0 where
   pub kept : ℕ
-  pub breach : Option Breach
+  pub breach : Option BrokenRow
   pub read : IsReadTo log kept breach
   pub window : IsNoWindow (length log) (rows_seen kept breach) span why
 

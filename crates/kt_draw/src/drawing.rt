@@ -7,7 +7,7 @@ ghost use Rattle.kt_rules.specs.declared.legality.LegalFault.TheVariants as lega
 ghost use Rattle.kt_meaning.specs.Answers.{IsCheckerAnswer};
 ghost use Rattle.kt_meaning.specs.Legal.{first_broken};
 ghost use Rattle.kt_log_text.specs.Reading.{IsUnread, rows_unread};
-ghost use Rattle.kt_picture.specs.Breach.{caption_of};
+ghost use Rattle.kt_picture.specs.BrokenRow.{caption_of};
 ghost use Rattle.kt_picture.specs.DiagramOf.{SheetOf};
 ghost use Rattle.kt_draw.specs.declared.span.Span.{Span as Spans};
 ghost use Rattle.kt_draw.specs.Drawn.{answer_sentence, IsCertifiedPicture, IsNoPictureOf, IsOrphanDrawn, IsPictureOf, IsPictureTo, IsUndrawnLog, orphan_told};
@@ -18,7 +18,7 @@ use kt_base::{Memory, MsgNo};
 use kt_checker::check;
 use kt_explain::{Explanation, explain};
 use kt_log_text::RowReader;
-use kt_picture::{Breach, Diagram, Evidence, Sheet, caption};
+use kt_picture::{BrokenRow, Diagram, Evidence, Sheet, caption};
 use kt_plan::Names;
 use kt_rules::LegalFault;
 use kt_spacetime::{Certificate, Event, SpaceTime, Verdict, Why};
@@ -151,7 +151,7 @@ fn read_log(alloc: Global, log: &SpaceTime, span: Span) -> Result<Reading, Memor
 #[derive(Drop)]
 struct Reading {
     followed: Followed,
-    breach: Option<Breach>,
+    breach: Option<BrokenRow>,
     count: usize,
 }
 
@@ -190,7 +190,7 @@ impl Reading {
         let LegalFault::Broken(_number, rule) = fault else {
             return Err(Memory);
         };
-        self.breach = Some(Breach { event: *row, rule });
+        self.breach = Some(BrokenRow { event: *row, rule });
         Ok(())
     }
 

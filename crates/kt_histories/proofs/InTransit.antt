@@ -8,7 +8,7 @@ use Rattle.kt_spacetime.specs.declared.event.Event.{Event}
 use Rattle.kt_meaning.specs.Past.{past}
 use Rattle.kt_meaning.specs.Legal.{is_undelivered}
 use Rattle.kt_histories.specs.declared.waiting.Waiting.{Waiting}
-use Rattle.kt_histories.specs.Breaches.{Notes}
+use Rattle.kt_histories.specs.Breaches.{ShowsWaiting}
 use Rattle.kt_histories.proofs.FoundRows.{range_more}
 
 -- those of the messages of the first so many rows
@@ -49,7 +49,7 @@ transit_next rows from to n msg false at is = transit_same rows from to n (sym (
 
 -- what is noted after so many rows; who sends and receives stays, and what was received last
 pub record IsWaitingTo (rows : List Event) (from to : ℕ) (initial : Waiting) (n : ℕ) (w : Waiting) : Type 0 where
-  pub notes : Notes w (transit_to rows from to n)
+  pub notes : ShowsWaiting w (transit_to rows from to n)
   pub few : w.count ≤ n
   pub of_sender : w.from ≡ initial.from
   pub to_process : w.to ≡ initial.to
@@ -62,7 +62,7 @@ take_all (suc n) [] e = refl
 take_all (suc n) (x ∷ xs) e = ap (λ (l : List ℕ). x ∷ l) (take_all n xs (omega (arith, e)))
 
 -- one more of few is among the least
-pub note_more : (old new : Waiting) (msg : ℕ) (list : List ℕ) → new.count ≡ old.count + 1 → new.least.items ≡ old.least.items ++ msg ∷ [] → old.count < 8 → Notes old list → Notes new (list ++ msg ∷ [])
+pub note_more : (old new : Waiting) (msg : ℕ) (list : List ℕ) → new.count ≡ old.count + 1 → new.least.items ≡ old.least.items ++ msg ∷ [] → old.count < 8 → ShowsWaiting old list → ShowsWaiting new (list ++ msg ∷ [])
 note_more old new msg list count least low h = record {
   count = omega (arith, count, h.count, length-append list (msg ∷ []));
   least = least ∙ (ap (λ (l : List ℕ). l ++ msg ∷ []) (h.least ∙ take_all 8 list (omega (arith, low, h.count)))
@@ -70,23 +70,23 @@ note_more old new msg list count least low h = record {
 }
 
 -- one more of many is not
-pub note_same : (old new : Waiting) (msg : ℕ) (list : List ℕ) → new.count ≡ old.count + 1 → new.least.items ≡ old.least.items → 8 ≤ old.count → Notes old list → Notes new (list ++ msg ∷ [])
+pub note_same : (old new : Waiting) (msg : ℕ) (list : List ℕ) → new.count ≡ old.count + 1 → new.least.items ≡ old.least.items → 8 ≤ old.count → ShowsWaiting old list → ShowsWaiting new (list ++ msg ∷ [])
 note_same old new msg list count least high h = record {
   count = omega (arith, count, h.count, length-append list (msg ∷ []));
   least = least ∙ (h.least ∙ sym (take-append-le 8 list (msg ∷ []) (omega (arith, high, h.count))));
 }
 
 -- the same where it is told whether it is in transit
-pub noted_more : (b : Bool) (old new : Waiting) (msg : ℕ) (list : List ℕ) → b ≡ true → new.count ≡ old.count + 1 → new.least.items ≡ old.least.items ++ msg ∷ [] → old.count < 8 → Notes old list
-    → Notes new (if b then list ++ msg ∷ [] else list)
+pub noted_more : (b : Bool) (old new : Waiting) (msg : ℕ) (list : List ℕ) → b ≡ true → new.count ≡ old.count + 1 → new.least.items ≡ old.least.items ++ msg ∷ [] → old.count < 8 → ShowsWaiting old list
+    → ShowsWaiting new (if b then list ++ msg ∷ [] else list)
 noted_more true old new msg list is count least low h = note_more old new msg list count least low h
 noted_more false old new msg list is count least low h = absurd (cc)
 
-pub noted_same : (b : Bool) (old new : Waiting) (msg : ℕ) (list : List ℕ) → b ≡ true → new.count ≡ old.count + 1 → new.least.items ≡ old.least.items → 8 ≤ old.count → Notes old list
-    → Notes new (if b then list ++ msg ∷ [] else list)
+pub noted_same : (b : Bool) (old new : Waiting) (msg : ℕ) (list : List ℕ) → b ≡ true → new.count ≡ old.count + 1 → new.least.items ≡ old.least.items → 8 ≤ old.count → ShowsWaiting old list
+    → ShowsWaiting new (if b then list ++ msg ∷ [] else list)
 noted_same true old new msg list is count least high h = note_same old new msg list count least high h
 noted_same false old new msg list is count least high h = absurd (cc)
 
-pub not_noted : (b : Bool) (w : Waiting) (msg : ℕ) (list : List ℕ) → b ≡ false → Notes w list → Notes w (if b then list ++ msg ∷ [] else list)
+pub not_noted : (b : Bool) (w : Waiting) (msg : ℕ) (list : List ℕ) → b ≡ false → ShowsWaiting w list → ShowsWaiting w (if b then list ++ msg ∷ [] else list)
 not_noted true w msg list is h = absurd (cc)
 not_noted false w msg list is h = h

@@ -142,7 +142,7 @@ IsLater rows (breach.Undecided k) later = IsFirstNumber (decides_inst k) rows la
 IsLater rows b later = later ≡ None
 
 -- those of a list of messages that are told: how many they are, and the least eight
-pub record Notes (w : Waiting) (list : List ℕ) : Type 0 where
+pub record ShowsWaiting (w : Waiting) (list : List ℕ) : Type 0 where
   pub count : w.count ≡ length list
   pub least : w.least.items ≡ take 8 list
 
@@ -155,7 +155,7 @@ in_transit rows from to = filter (is_undelivered (past rows) to from) (range_wit
 pub record IsWaiting (rows : List Event) (from to : ℕ) (w : Waiting) : Type 0 where
   pub of_sender : w.from ≡ from
   pub to_process : w.to ≡ to
-  pub notes : Notes w (in_transit rows from to)
+  pub notes : ShowsWaiting w (in_transit rows from to)
   pub latest : IfSome w.received (IsLatestFrom from ((past rows).live to))
   pub none : IfNone w.received ((m : ℕ) → has_received (past rows) to from m ≡ true → ⊥)
 

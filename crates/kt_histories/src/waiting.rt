@@ -1,7 +1,7 @@
 //! The messages that are in transit from one process to another before a row.
 
 ghost use Rattle.std.specs.Prelude.{◌≡◌, ◌≤◌, ◌<◌, ◌+◌, ◌^◌, ◌++◌, ◌∷◌, if◌then◌else◌, [], ℕ, List, OnOk};
-ghost use Rattle.kt_histories.specs.Breaches.{Notes};
+ghost use Rattle.kt_histories.specs.Breaches.{ShowsWaiting};
 
 use crate::breach::before::Before;
 use crate::words::{Count, Message, Process, say};
@@ -50,8 +50,8 @@ impl Waiting {
     // One more message, which is in transit if so it is.
     fn note(&mut self, is_waiting: bool, msg: MsgNo) -> Result<(), Memory>
         requires few { self.old.count < 2 ^ 24 }
-        ensures noted { OnOk result ((list : List ℕ) → Notes self.old list
-            → Notes self.new (if is_waiting then list ++ msg ∷ [] else list)) }
+        ensures noted { OnOk result ((list : List ℕ) → ShowsWaiting self.old list
+            → ShowsWaiting self.new (if is_waiting then list ++ msg ∷ [] else list)) }
         ensures count { OnOk result (self.new.count ≤ self.old.count + 1) }
         ensures from { OnOk result (self.new.from ≡ self.old.from) }
         ensures to { OnOk result (self.new.to ≡ self.old.to) }

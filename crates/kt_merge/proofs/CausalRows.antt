@@ -20,11 +20,11 @@ use Rattle.kt_meaning.proofs.PlaceFacts.{map_some, then_some, test_some, same_te
 use Rattle.kt_meaning.proofs.NumberedFacts.{numbered_more}
 use Rattle.kt_meaning.proofs.Items.{get_left, get_push, get_seam, some_same}
 use Rattle.kt_meaning.proofs.Shown.{at_same, at_other}
-use Rattle.kt_merge.specs.declared.part_rows.PartRow.{PartRow}
+use Rattle.kt_spacetime.specs.declared.named_rows.ClockedRow.{ClockedRow}
+use Rattle.kt_spacetime.specs.ClockedRows.{rows_of, without_clocks}
 use Rattle.kt_merge.specs.declared.giver.Name.{Name}
 use Rattle.kt_merge.specs.declared.giver.Name.TheVariants as name
 use Rattle.kt_merge.specs.Heads.{IsNotLater}
-use Rattle.kt_merge.specs.Merging.{rows_of, without_clocks}
 use Rattle.kt_merge.specs.Causal.{messages_given, instances_given, GivesNext, GiveInOrder, name_given, EachNameOfCause, EachName, IsEarlier, IsGivenBefore, AreCausal}
 use Rattle.kt_merge.proofs.OneMerge.{of_it, of_other}
 
@@ -189,40 +189,40 @@ newly g next p own.Failed c next_one n e = cc e
 newly g next p (own.Refused verb cause) c next_one n e = cc e
 
 -- rows have numbers up to here, and these are left
-pub record IsAt (rows before rest : List PartRow) (g : Given) : Type 0 where
+pub record IsAt (rows before rest : List ClockedRow) (g : Given) : Type 0 where
   pub whole : rows ≡ before ++ rest
-  pub given : (j : ℕ) (s : PartRow) (n : Name) → slice_get before j ≡ Some s → name_given s.row.p s.row.event ≡ Some n → IsCounted g n
+  pub given : (j : ℕ) (s : ClockedRow) (n : Name) → slice_get before j ≡ Some s → name_given s.row.p s.row.event ≡ Some n → IsCounted g n
   pub in_order : (p : ℕ) → GiveInOrder p (length (g.sent p)) (length (g.begun p)) (rows_of p rest)
 
-module _ (rows before : List PartRow) (r : PartRow) (rest : List PartRow) (g : Given) (sorted : AllPairs IsNotLater rows) (causal : AreCausal rows) (at : IsAt rows before (r ∷ rest) g) where
+module _ (rows before : List ClockedRow) (r : ClockedRow) (rest : List ClockedRow) (g : Given) (sorted : AllPairs IsNotLater rows) (causal : AreCausal rows) (at : IsAt rows before (r ∷ rest) g) where
   here : slice_get rows (length before) ≡ Some r
-  here = ap (λ (l : List PartRow). slice_get l (length before)) at.whole ∙ get_seam before r rest
+  here = ap (λ (l : List ClockedRow). slice_get l (length before)) at.whole ∙ get_seam before r rest
 
-  not_strictly : (a b : PartRow) → IsNotLater a b → IsEarlier b a → ⊥
+  not_strictly : (a b : ClockedRow) → IsNotLater a b → IsEarlier b a → ⊥
   not_strictly a b (inl x) (inl y) = omega (arith, x, y)
   not_strictly a b (inl x) (inr y) = omega (arith, x, y.0)
   not_strictly a b (inr x) (inl y) = omega (arith, x.0, y)
   not_strictly a b (inr x) (inr y) = omega (arith, x.1, y.1)
 
   -- what comes earlier stands before it
-  stands_before : (j : ℕ) (s : PartRow) → slice_get rows j ≡ Some s → IsEarlier s r → j < length before
+  stands_before : (j : ℕ) (s : ClockedRow) → slice_get rows j ≡ Some s → IsEarlier s r → j < length before
   stands_before j s there earlier = elim (cases_lt j (length before)) [
     | inl less ↦ less
     | inr more ↦ elim (cases_eq j (length before)) [
       | inl same ↦
           let one : r ≡ s = some_same (sym here ∙ (ap (slice_get rows) (sym same) ∙ there)) in
-          absurd (not_strictly r r (inr (refl, omega arith)) (subst (λ (x : PartRow). IsEarlier x r) (sym one) earlier))
+          absurd (not_strictly r r (inr (refl, omega arith)) (subst (λ (x : ClockedRow). IsEarlier x r) (sym one) earlier))
       | inr other ↦
           let within = slice_get_within rows j s there in
           let pair = sorted (length before) j r (omega (arith, more, other)) (omega (arith, within)) in
-          let first = subst (λ (x : PartRow). IsNotLater x (get_or rows j r)) (get_or_from_slice_get rows (length before) r r here) pair in
-          let later : IsNotLater r s = subst (λ (x : PartRow). IsNotLater r x) (get_or_from_slice_get rows j s r there) first in
+          let first = subst (λ (x : ClockedRow). IsNotLater x (get_or rows j r)) (get_or_from_slice_get rows (length before) r r here) pair in
+          let later : IsNotLater r s = subst (λ (x : ClockedRow). IsNotLater r x) (get_or_from_slice_get rows j s r there) first in
           absurd (not_strictly r s later earlier)
     ]
   ]
 
   given_then : (n : Name) → IsGivenBefore rows (length before) r n → IsCounted g n
-  given_then n h = at.given h.place h.row n (sym (get_left before (r ∷ rest) h.place low) ∙ (ap (λ (l : List PartRow). slice_get l h.place) (sym at.whole) ∙ h.stands)) h.gives
+  given_then n h = at.given h.place h.row n (sym (get_left before (r ∷ rest) h.place low) ∙ (ap (λ (l : List ClockedRow). slice_get l h.place) (sym at.whole) ∙ h.stands)) h.gives
     where
       low : h.place < length before
       low = elim h.before [
@@ -243,10 +243,10 @@ module _ (rows before : List PartRow) (r : PartRow) (rest : List PartRow) (g : G
     more : Counts g (given_after g event) r.row.p r.row.event
     more = counts g r.row.p r.row.event event numbered
 
-    given_now : (j : ℕ) (s : PartRow) (n : Name) → slice_get (before ++ r ∷ []) j ≡ Some s → name_given s.row.p s.row.event ≡ Some n → IsCounted (given_after g event) n
+    given_now : (j : ℕ) (s : ClockedRow) (n : Name) → slice_get (before ++ r ∷ []) j ≡ Some s → name_given s.row.p s.row.event ≡ Some n → IsCounted (given_after g event) n
     given_now j s n there gives = elim (get_push before r j s there) [
       | inl old ↦ stays g (given_after g event) r.row.p r.row.event more n (at.given j s n old gives)
-      | inr new ↦ newly g (given_after g event) r.row.p r.row.event more own_rows.0 n (subst (λ (x : PartRow). name_given x.row.p x.row.event ≡ Some n) new.1 gives)
+      | inr new ↦ newly g (given_after g event) r.row.p r.row.event more own_rows.0 n (subst (λ (x : ClockedRow). name_given x.row.p x.row.event ≡ Some n) new.1 gives)
     ]
 
     order_now : (p : ℕ) → GiveInOrder p (length ((given_after g event).sent p)) (length ((given_after g event).begun p)) (rows_of p rest)
@@ -264,12 +264,12 @@ module _ (rows before : List PartRow) (r : PartRow) (rest : List PartRow) (g : G
     next_at : IsAt rows (before ++ r ∷ []) rest (given_after g event)
     next_at = record { whole = at.whole ∙ sym (append_assoc before (r ∷ []) rest); given = given_now; in_order = order_now }
 
-numbered_rest : (rows before rest : List PartRow) (g : Given) → AllPairs IsNotLater rows → AreCausal rows → IsAt rows before rest g → (log : List Event) × (numbered_from g (without_clocks rest) ≡ Some log)
+numbered_rest : (rows before rest : List ClockedRow) (g : Given) → AllPairs IsNotLater rows → AreCausal rows → IsAt rows before rest g → (log : List Event) × (numbered_from g (without_clocks rest) ≡ Some log)
 numbered_rest rows before [] g sorted causal at = ([], refl)
 numbered_rest rows before (r ∷ rest) g sorted causal at =
     let row = next_number rows before r rest g sorted causal at in
     let more = numbered_rest rows (before ++ r ∷ []) rest (given_after g row.0) sorted causal (next_at rows before r rest g sorted causal at row.0 row.1) in
     (row.0 ∷ more.0, numbered_more g r.row (without_clocks rest) row.0 more.0 row.1 more.1)
 
-pub causal_log : (rows : List PartRow) → AllPairs IsNotLater rows → AreCausal rows → (log : List Event) × (numbered (without_clocks rows) ≡ Some log)
+pub causal_log : (rows : List ClockedRow) → AllPairs IsNotLater rows → AreCausal rows → (log : List Event) × (numbered (without_clocks rows) ≡ Some log)
 causal_log rows sorted causal = numbered_rest rows [] rows nothing_given sorted causal (record { whole = refl; given = λ j s n there gives. absurd (cc there); in_order = causal.in_order })

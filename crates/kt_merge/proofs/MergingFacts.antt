@@ -13,7 +13,8 @@ use Rattle.kt_log_text.specs.Spelling.{spelling}
 use Rattle.kt_log_text.specs.Texts.{header}
 use Rattle.kt_meaning.specs.Names.{Given, nothing_given, given_after, given_by, numbered_event}
 use Rattle.kt_merge.specs.declared.part_fault.PartFault.{PartFault}
-use Rattle.kt_merge.specs.declared.part_rows.PartRow.{PartRow}
+use Rattle.kt_spacetime.specs.declared.named_rows.ClockedRow.{ClockedRow}
+use Rattle.kt_spacetime.specs.ClockedRows.{rows_of}
 use Rattle.kt_merge.specs.Reading.{PartRead, MeetsPartFault, StepsPart}
 use Rattle.kt_merge.specs.declared.fault.MergeFault.{MergeFault}
 use Rattle.kt_merge.specs.declared.fault.MergeFault.TheVariants as merge
@@ -21,7 +22,7 @@ use Rattle.kt_merge.specs.declared.fault.RowFault.{RowFault}
 use Rattle.kt_merge.specs.declared.tables.Numbers.{Numbers}
 use Rattle.kt_merge.specs.Heads.{IsLeastHead, HasNoHead, GiveHeads}
 use Rattle.kt_merge.specs.Numbering.{IsRowFault, ShowsGiven}
-use Rattle.kt_merge.specs.Merging.{ArePartsUnread, rows_of, log_text, WritesMerge, IsMergeFaultAfter, StopsMerge}
+use Rattle.kt_merge.specs.Merging.{ArePartsUnread, log_text, WritesMerge, IsMergeFaultAfter, StopsMerge}
 use Rattle.kt_merge.proofs.MergedFacts.{IsMergedTo, taken, begins_merge, begins_taken, begins_nothing, merged_more, merged_all, merged_none, count_held}
 use Rattle.kt_merge.proofs.StopFacts.{row_fault, part_fault}
 
@@ -33,8 +34,8 @@ given_more : (log : List Event) (row : Event) → given_by nothing_given (log ++
 given_more log row = fold-append given_after nothing_given log (row ∷ [])
 
 -- rows were merged, numbered and gathered
-pub record IsMerging (start parts : List PartRead) (heads : List (Option PartRow)) (numbers : Numbers) (old new : Option (List ℕ)) (text : List ℕ) : Type 0 where
-  pub rows : List PartRow
+pub record IsMerging (start parts : List PartRead) (heads : List (Option ClockedRow)) (numbers : Numbers) (old new : Option (List ℕ)) (text : List ℕ) : Type 0 where
+  pub rows : List ClockedRow
   pub log : List Event
   pub merged : IsMergedTo start parts heads rows log
   pub shows : ShowsGiven numbers (given_by nothing_given log)
@@ -46,7 +47,7 @@ appends_none None = tt
 appends_none (Some bytes) = sym (append-nil bytes)
 
 -- before the first row
-pub merging_none : (start parts : List PartRead) (heads : List (Option PartRow)) (numbers : Numbers) (a : Option (List ℕ)) (text : List ℕ) → ArePartsUnread start → GiveHeads start parts heads → ShowsGiven numbers nothing_given → text ≡ line_of header
+pub merging_none : (start parts : List PartRead) (heads : List (Option ClockedRow)) (numbers : Numbers) (a : Option (List ℕ)) (text : List ℕ) → ArePartsUnread start → GiveHeads start parts heads → ShowsGiven numbers nothing_given → text ≡ line_of header
     → IsMerging start parts heads numbers a a text
 merging_none start parts heads numbers a text unread g shows e = record {
   rows = [];
@@ -57,7 +58,7 @@ merging_none start parts heads numbers a text unread g shows e = record {
 }
 
 -- one more row
-pub merging_more : (start parts : List PartRead) (heads : List (Option PartRow)) (numbers more : Numbers) (a b d : Option (List ℕ)) (text gathered : List ℕ) (p : ℕ) (row : PartRow) (event : Event) (old new : PartRead) (head : Option PartRow)
+pub merging_more : (start parts : List PartRead) (heads : List (Option ClockedRow)) (numbers more : Numbers) (a b d : Option (List ℕ)) (text gathered : List ℕ) (p : ℕ) (row : ClockedRow) (event : Event) (old new : PartRead) (head : Option ClockedRow)
     (m : IsMerging start parts heads numbers a b text) → IsLeastHead heads p row → numbered_event (given_by nothing_given m.log) row.row.p row.row.event ≡ Some event → ShowsGiven more (given_after (given_by nothing_given m.log) event)
     → Sends b d text gathered (line_of (spelling event)) → slice_get parts p ≡ Some old → StepsPart old new (Ok head) → IsMerging start (set parts p new) (set heads p head) more a d gathered
 merging_more start parts heads numbers more a b d text gathered p row event old new head m least e shows out there steps = record {
@@ -69,12 +70,12 @@ merging_more start parts heads numbers more a b d text gathered p row event old 
 }
 
 -- where no row was found, no part has a next one
-pub none_left : (found : Option (ℕ × PartRow)) (heads : List (Option PartRow)) → ((r : ℕ × PartRow) → found ≡ Some r → ⊥) → IfNone found (HasNoHead heads) → HasNoHead heads
+pub none_left : (found : Option (ℕ × ClockedRow)) (heads : List (Option ClockedRow)) → ((r : ℕ × ClockedRow) → found ≡ Some r → ⊥) → IfNone found (HasNoHead heads) → HasNoHead heads
 none_left None heads other h = h
 none_left (Some r) heads other h = absurd (other r refl)
 
 -- all rows are written
-pub writes_all : (start parts : List PartRead) (heads : List (Option PartRow)) (numbers : Numbers) (a b d : Option (List ℕ)) (text : List ℕ) → IsMerging start parts heads numbers a b text → HasNoHead heads → Appends b d text → WritesMerge start a d
+pub writes_all : (start parts : List PartRead) (heads : List (Option ClockedRow)) (numbers : Numbers) (a b d : Option (List ℕ)) (text : List ℕ) → IsMerging start parts heads numbers a b text → HasNoHead heads → Appends b d text → WritesMerge start a d
 writes_all start parts heads numbers a b d text m none out = record {
   rows = m.rows;
   log = m.log;
@@ -93,7 +94,7 @@ pub of_write_fault : (fault : WriteFault) (e : MergeFault) → (fault ≡ write.
 of_write_fault write.Write e h = subst IsOfWriting (sym (h.0 refl)) tt
 of_write_fault write.Memory e h = subst IsOfWriting (sym (h.1 refl)) tt
 
-of_writing : (start : List PartRead) (rows : List PartRow) (log : List Event) (e : MergeFault) → IsOfWriting e → IsMergeFaultAfter start rows log e
+of_writing : (start : List PartRead) (rows : List ClockedRow) (log : List Event) (e : MergeFault) → IsOfWriting e → IsMergeFaultAfter start rows log e
 of_writing start rows log merge.Write w = tt
 of_writing start rows log merge.Memory w = tt
 of_writing start rows log (merge.Part p fault) w = absurd w
@@ -107,16 +108,16 @@ pub stops_before : (start : List PartRead) (a : Option (List ℕ)) (e : MergeFau
 stops_before start a e w = stops_first start a e (of_writing start [] [] e w)
 
 -- at a row that has no number
-abbrev pub HasNoNumber : Given → PartRow → ℕ → MergeFault → Type 0
+abbrev pub HasNoNumber : Given → ClockedRow → ℕ → MergeFault → Type 0
 HasNoNumber g row n e = (e ≡ merge.Memory) ⊎ ((what : RowFault) × (e ≡ merge.Row row.row.p n what) × IsRowFault g row.row.p row.row.event what)
 
-wrong_row : (start parts : List PartRead) (heads : List (Option PartRow)) (rows : List PartRow) (log : List Event) (p : ℕ) (row : PartRow) (n : ℕ) (e : MergeFault) → IsMergedTo start parts heads rows log → IsLeastHead heads p row
+wrong_row : (start parts : List PartRead) (heads : List (Option ClockedRow)) (rows : List ClockedRow) (log : List Event) (p : ℕ) (row : ClockedRow) (n : ℕ) (e : MergeFault) → IsMergedTo start parts heads rows log → IsLeastHead heads p row
     → n ≡ length (rows_of p rows) + 1 → HasNoNumber (given_by nothing_given log) row n e → IsMergeFaultAfter start rows log e
 wrong_row start parts heads rows log p row n e m least number (inl is) = subst (λ (f : MergeFault). IsMergeFaultAfter start rows log f) (sym is) tt
 wrong_row start parts heads rows log p row n e m least number (inr w) =
     subst (λ (f : MergeFault). IsMergeFaultAfter start rows log f) (sym w.1) (row_fault start parts heads rows log p row n w.0 m least number w.2)
 
-pub stops_at_row : (start parts : List PartRead) (heads : List (Option PartRow)) (numbers : Numbers) (a b : Option (List ℕ)) (text : List ℕ) (p : ℕ) (row : PartRow) (at : PartRead) (e : MergeFault) (m : IsMerging start parts heads numbers a b text)
+pub stops_at_row : (start parts : List PartRead) (heads : List (Option ClockedRow)) (numbers : Numbers) (a b : Option (List ℕ)) (text : List ℕ) (p : ℕ) (row : ClockedRow) (at : PartRead) (e : MergeFault) (m : IsMerging start parts heads numbers a b text)
     → IsLeastHead heads p row → slice_get parts p ≡ Some at → HasNoNumber (given_by nothing_given m.log) row at.count e → StopsMerge start a b e
 stops_at_row start parts heads numbers a b text p row at e m least there w = record {
   rows = m.rows;
@@ -127,7 +128,7 @@ stops_at_row start parts heads numbers a b text p row at e m least there w = rec
 }
 
 -- where a row can't be written
-pub stops_in_writing : (start parts : List PartRead) (heads : List (Option PartRow)) (numbers : Numbers) (a b d : Option (List ℕ)) (text : List ℕ) (p : ℕ) (row : PartRow) (event : Event) (e : MergeFault) (m : IsMerging start parts heads numbers a b text)
+pub stops_in_writing : (start parts : List PartRead) (heads : List (Option ClockedRow)) (numbers : Numbers) (a b d : Option (List ℕ)) (text : List ℕ) (p : ℕ) (row : ClockedRow) (event : Event) (e : MergeFault) (m : IsMerging start parts heads numbers a b text)
     → IsLeastHead heads p row → numbered_event (given_by nothing_given m.log) row.row.p row.row.event ≡ Some event → WritesFront b d (text ++ line_of (spelling event)) → IsOfWriting e → StopsMerge start a d e
 stops_in_writing start parts heads numbers a b d text p row event e m least is out w =
     let t = taken start parts heads m.rows m.log p row event m.merged least is in
@@ -145,7 +146,7 @@ stops_in_writing start parts heads numbers a b d text p row event e m least is o
         (starts (log_text (m.log ++ event ∷ [])) (log_text m.log ++ line_of (spelling event)) [] (one_more m.log event ∙ sym (append-nil (log_text m.log ++ line_of (spelling event)))))
 
 -- where the next record of a part is wrong
-pub stops_at_part : (start parts : List PartRead) (heads : List (Option PartRow)) (numbers : Numbers) (a b d : Option (List ℕ)) (text gathered : List ℕ) (p : ℕ) (row : PartRow) (event : Event) (old new : PartRead) (fault : PartFault) (e : MergeFault)
+pub stops_at_part : (start parts : List PartRead) (heads : List (Option ClockedRow)) (numbers : Numbers) (a b d : Option (List ℕ)) (text gathered : List ℕ) (p : ℕ) (row : ClockedRow) (event : Event) (old new : PartRead) (fault : PartFault) (e : MergeFault)
     (m : IsMerging start parts heads numbers a b text) → IsLeastHead heads p row → numbered_event (given_by nothing_given m.log) row.row.p row.row.event ≡ Some event → Sends b d text gathered (line_of (spelling event))
     → slice_get parts p ≡ Some old → e ≡ merge.Part p fault → MeetsPartFault old new fault → StopsMerge start a d e
 stops_at_part start parts heads numbers a b d text gathered p row event old new fault e m least is out there e_is f =
@@ -160,7 +161,7 @@ stops_at_part start parts heads numbers a b d text gathered p row event old new 
     }
 
 -- where the rest can't be written
-pub stops_at_end : (start parts : List PartRead) (heads : List (Option PartRow)) (numbers : Numbers) (a b d : Option (List ℕ)) (text : List ℕ) (e : MergeFault) → IsMerging start parts heads numbers a b text → WritesFront b d text → IsOfWriting e → StopsMerge start a d e
+pub stops_at_end : (start parts : List PartRead) (heads : List (Option ClockedRow)) (numbers : Numbers) (a b d : Option (List ℕ)) (text : List ℕ) (e : MergeFault) → IsMerging start parts heads numbers a b text → WritesFront b d text → IsOfWriting e → StopsMerge start a d e
 stops_at_end start parts heads numbers a b d text e m out w = record {
   rows = m.rows;
   log = m.log;

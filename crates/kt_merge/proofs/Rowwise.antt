@@ -4,16 +4,17 @@ use Rattle.std.specs.Prelude.{◌==◌, cond, filter}
 use Rattle.kt_spacetime.specs.declared.event.Event.{Event}
 use Rattle.kt_spacetime.specs.declared.named_rows.NamedRow.{NamedRow}
 use Rattle.kt_meaning.specs.Names.{named, numbered}
-use Rattle.kt_merge.specs.declared.part_rows.PartRow.{PartRow}
+use Rattle.kt_spacetime.specs.declared.named_rows.ClockedRow.{ClockedRow}
+use Rattle.kt_spacetime.specs.ClockedRows.{rows_of, without_clocks}
 use Rattle.kt_merge.specs.Reading.{PartRead}
-use Rattle.kt_merge.specs.Merging.{IsRowwise, WritesMerge, rows_of, without_clocks}
+use Rattle.kt_merge.specs.Merging.{IsRowwise, WritesMerge}
 
-kept_or_not : (b : Bool) (x : PartRow) (rows : List PartRow) → without_clocks (cond b (x ∷ rows) rows) ≡ cond b (x.row ∷ without_clocks rows) (without_clocks rows)
+kept_or_not : (b : Bool) (x : ClockedRow) (rows : List ClockedRow) → without_clocks (cond b (x ∷ rows) rows) ≡ cond b (x.row ∷ without_clocks rows) (without_clocks rows)
 kept_or_not true x rows = refl
 kept_or_not false x rows = refl
 
 -- a process's rows have no clocks where all have none
-without_each : (p : ℕ) (rows : List PartRow) → filter (λ (r : NamedRow). r.p == p) (without_clocks rows) ≡ without_clocks (rows_of p rows)
+without_each : (p : ℕ) (rows : List ClockedRow) → filter (λ (r : NamedRow). r.p == p) (without_clocks rows) ≡ without_clocks (rows_of p rows)
 without_each p [] = refl
 without_each p (x ∷ rows) =
     ap (λ (l : List NamedRow). cond (x.row.p == p) (x.row ∷ l) l) (without_each p rows) ∙ sym (kept_or_not (x.row.p == p) x (rows_of p rows))

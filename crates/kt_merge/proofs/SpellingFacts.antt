@@ -26,7 +26,7 @@ use Rattle.kt_spacetime.specs.declared.named_rows.NamedEvent.TheVariants.{Sent, 
 use Rattle.kt_merge.specs.declared.part_rows.EventWord.{EventWord}
 use Rattle.kt_merge.specs.declared.part_rows.EventWord.TheVariants as word
 use Rattle.kt_merge.specs.declared.part_rows.FieldFault.{FieldFault}
-use Rattle.kt_merge.specs.declared.part_rows.PartRow.{PartRow}
+use Rattle.kt_spacetime.specs.declared.named_rows.ClockedRow.{ClockedRow}
 use Rattle.kt_merge.specs.PartSlot.{PartSlot}
 use Rattle.kt_merge.specs.PartSlot as slot
 use Rattle.kt_merge.specs.Spelling.{name_word, message_word, instance_word, named_cause_word, event_word, fields_by, part_spelling, IsOwn, FitsPartSlot, IsFirstPartMisfit, IsFaultAfterWord, IsFieldFault}
@@ -271,20 +271,20 @@ process_field p (Closed inst) = refl
 process_field p Failed = refl
 process_field p (Refused verb cause) = refl
 
-same_row : (a b : PartRow) → a.clock ≡ b.clock → a.row.p ≡ b.row.p → a.row.event ≡ b.row.event → a ≡ b
+same_row : (a b : ClockedRow) → a.clock ≡ b.clock → a.row.p ≡ b.row.p → a.row.event ≡ b.row.event → a ≡ b
 same_row a b e f g = at_clock e ∙ (at_process f ∙ at_event g)
   where
     at_clock : a.clock ≡ b.clock → a ≡ record { clock = b.clock; row = record { p = a.row.p; event = a.row.event } }
-    at_clock e = ap (λ (c : ℕ). let x : PartRow = record { clock = c; row = record { p = a.row.p; event = a.row.event } } in x) e
+    at_clock e = ap (λ (c : ℕ). let x : ClockedRow = record { clock = c; row = record { p = a.row.p; event = a.row.event } } in x) e
 
-    at_process : a.row.p ≡ b.row.p → ◌≡◌ {A = PartRow} (record { clock = b.clock; row = record { p = a.row.p; event = a.row.event } }) (record { clock = b.clock; row = record { p = b.row.p; event = a.row.event } })
-    at_process f = ap (λ (p : ℕ). let x : PartRow = record { clock = b.clock; row = record { p = p; event = a.row.event } } in x) f
+    at_process : a.row.p ≡ b.row.p → ◌≡◌ {A = ClockedRow} (record { clock = b.clock; row = record { p = a.row.p; event = a.row.event } }) (record { clock = b.clock; row = record { p = b.row.p; event = a.row.event } })
+    at_process f = ap (λ (p : ℕ). let x : ClockedRow = record { clock = b.clock; row = record { p = p; event = a.row.event } } in x) f
 
-    at_event : a.row.event ≡ b.row.event → ◌≡◌ {A = PartRow} (record { clock = b.clock; row = record { p = b.row.p; event = a.row.event } }) b
-    at_event g = ap (λ (event : NamedEvent). let x : PartRow = record { clock = b.clock; row = record { p = b.row.p; event = event } } in x) g
+    at_event : a.row.event ≡ b.row.event → ◌≡◌ {A = ClockedRow} (record { clock = b.clock; row = record { p = b.row.p; event = a.row.event } }) b
+    at_event g = ap (λ (event : NamedEvent). let x : ClockedRow = record { clock = b.clock; row = record { p = b.row.p; event = event } } in x) g
 
 -- the fields of a row spell that row alone
-pub one_row : (a b : PartRow) → IsSpellable a → IsSpellable b → part_spelling a ≡ part_spelling b → a ≡ b
+pub one_row : (a b : ClockedRow) → IsSpellable a → IsSpellable b → part_spelling a ≡ part_spelling b → a ≡ b
 one_row a b r s e =
     let time : decimal a.clock ≡ decimal b.clock = cc e in
     let rest : fields_by a.row.p a.row.event ≡ fields_by b.row.p b.row.event = cc e in
@@ -306,7 +306,7 @@ five_fields p (Closed inst) = refl
 five_fields p Failed = refl
 five_fields p (Refused verb cause) = refl
 
-pub six_fields : (a : PartRow) → length (part_spelling a) ≡ 6
+pub six_fields : (a : ClockedRow) → length (part_spelling a) ≡ 6
 six_fields a = omega (arith, five_fields a.row.p a.row.event)
 
 -- four texts that fit have no first one that does not
@@ -350,7 +350,7 @@ after_clock [] = []
 after_clock (t ∷ rest) = rest
 
 -- a record that spells a row has no wrong field
-pub none_wrong_in : (row : PartRow) (t w a b c d : List ℕ) (f : FieldFault) → IsSpellable row → part_spelling row ≡ t ∷ w ∷ a ∷ b ∷ c ∷ d ∷ [] → IsFieldFault t w a b c d f → ⊥
+pub none_wrong_in : (row : ClockedRow) (t w a b c d : List ℕ) (f : FieldFault) → IsSpellable row → part_spelling row ≡ t ∷ w ∷ a ∷ b ∷ c ∷ d ∷ [] → IsFieldFault t w a b c d f → ⊥
 none_wrong_in row t w a b c d f r e (inl h) =
     let time : t ≡ decimal row.clock = cc e in
     h.1 (row.clock, r.0, time)

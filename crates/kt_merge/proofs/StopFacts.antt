@@ -7,7 +7,8 @@ use Rattle.kt_meaning.proofs.Items.{item_there, get_push, get_set_same, get_set_
 use Rattle.kt_spacetime.specs.declared.event.Event.{Event}
 use Rattle.kt_meaning.specs.Names.{nothing_given, given_by}
 use Rattle.kt_merge.specs.declared.part_fault.PartFault.{PartFault}
-use Rattle.kt_merge.specs.declared.part_rows.PartRow.{PartRow}
+use Rattle.kt_spacetime.specs.declared.named_rows.ClockedRow.{ClockedRow}
+use Rattle.kt_spacetime.specs.ClockedRows.{rows_of}
 use Rattle.kt_merge.specs.Texts.{clock_after, BeginsPart, IsPartFaultFrom}
 use Rattle.kt_merge.specs.Reading.{PartRead, MeetsPartFault, StepsPart}
 use Rattle.kt_merge.proofs.GatherFacts.{GathersPart}
@@ -15,18 +16,18 @@ use Rattle.kt_merge.specs.declared.fault.MergeFault.TheVariants as merge
 use Rattle.kt_merge.specs.declared.fault.RowFault.{RowFault}
 use Rattle.kt_merge.specs.Heads.{IsNotLater, IsLeastHead}
 use Rattle.kt_merge.specs.Numbering.{IsRowFault}
-use Rattle.kt_merge.specs.Merging.{Records, ArePartsUnread, rows_of, SaysNext, GoesOn, IsLeftOf, IsMergeFaultAfter}
+use Rattle.kt_merge.specs.Merging.{Records, ArePartsUnread, SaysNext, GoesOn, IsLeftOf, IsMergeFaultAfter}
 use Rattle.kt_merge.proofs.HeldFacts.{before_by, HoldsHead, head_held, LeftBy, left_by, goes_on}
 use Rattle.kt_merge.proofs.MergedFacts.{IsMergedTo, IsTaken, stands, stands_beside, left_stands, own_of, unread_gathers, gathered_here, at_known}
 
 abbrev Heads : Type 0
-Heads = List (Option PartRow)
+Heads = List (Option ClockedRow)
 
 -- the row that comes first is wrong
-abbrev OtherNext : PartRow → ℕ → List PartRow → Records → Type 0
-OtherNext row q rows left = (left ≡ []) ⊎ ((next : PartRow) × SaysNext q rows left next × IsNotLater row next)
+abbrev OtherNext : ClockedRow → ℕ → List ClockedRow → Records → Type 0
+OtherNext row q rows left = (left ≡ []) ⊎ ((next : ClockedRow) × SaysNext q rows left next × IsNotLater row next)
 
-pub row_fault : (start parts : List PartRead) (heads : List (Option PartRow)) (rows : List PartRow) (log : List Event) (p : ℕ) (row : PartRow) (n : ℕ) (what : RowFault) → IsMergedTo start parts heads rows log → IsLeastHead heads p row
+pub row_fault : (start parts : List PartRead) (heads : List (Option ClockedRow)) (rows : List ClockedRow) (log : List Event) (p : ℕ) (row : ClockedRow) (n : ℕ) (what : RowFault) → IsMergedTo start parts heads rows log → IsLeastHead heads p row
     → n ≡ length (rows_of p rows) + 1 → IsRowFault (given_by nothing_given log) row.row.p row.row.event what → IsMergeFaultAfter start rows log (merge.Row row.row.p n what)
 row_fault start parts heads rows log p row n what m least number wrong =
     let own = own_of start parts heads rows log m p row least.is in
@@ -37,12 +38,12 @@ row_fault start parts heads rows log p row n what m least number wrong =
     here left l =
         let s = stands start parts heads rows log m p l.0 l.1 in
         let is : s.1 ≡ Some row = same_head s.1 (Some row) s.2 least.is in
-        subst (λ (h : Option PartRow). LeftBy p rows left h) is (left_stands parts heads rows p l.0 left s l.2)
+        subst (λ (h : Option ClockedRow). LeftBy p rows left h) is (left_stands parts heads rows p l.0 left s l.2)
       where
-        same_head : (a b : Option PartRow) → slice_get heads p ≡ Some a → slice_get heads p ≡ Some b → a ≡ b
+        same_head : (a b : Option ClockedRow) → slice_get heads p ≡ Some a → slice_get heads p ≡ Some b → a ≡ b
         same_head a b e f = cc (e, f)
 
-    other_next : (q : ℕ) (left : Records) (head : Option PartRow) → slice_get heads q ≡ Some head → LeftBy q rows left head → OtherNext row q rows left
+    other_next : (q : ℕ) (left : Records) (head : Option ClockedRow) → slice_get heads q ≡ Some head → LeftBy q rows left head → OtherNext row q rows left
     other_next q left None e l = inl l
     other_next q left (Some next) e l = inr (next, l, before_by row next p q (own_of start parts heads rows log m p row least.is).1 l.2 (least.least q next e))
 
@@ -52,7 +53,7 @@ row_fault start parts heads rows log p row n what m least number wrong =
         other_next q left s.1 s.2 (left_stands parts heads rows q l.0 left s l.2)
 
 -- what is wrong in a part, after what is gathered of it
-wrong_in : (p : ℕ) (mine : List PartRow) (text left : Records) (old new : PartRead) (fault : PartFault) → GathersPart p (Some text) old mine → BeginsPart p text mine left → MeetsPartFault old new fault
+wrong_in : (p : ℕ) (mine : List ClockedRow) (text left : Records) (old new : PartRead) (fault : PartFault) → GathersPart p (Some text) old mine → BeginsPart p text mine left → MeetsPartFault old new fault
     → IsPartFaultFrom p (length mine) (clock_after 0 mine) left fault
 wrong_in p mine text left old new fault g b f =
     at_known p mine text left old.left (λ (l : Records). IsPartFaultFrom p (length mine) (clock_after 0 mine) l fault) g.begins b
@@ -61,7 +62,7 @@ wrong_in p mine text left old new fault g b f =
     (subst (λ (n : ℕ). IfSome old.left (λ l. IsPartFaultFrom old.process n old.clock l fault)) g.count (f.first g.going.0))))
 
 -- the row after the one that was taken is wrong
-pub part_fault : (start parts : List PartRead) (heads : List (Option PartRow)) (p : ℕ) (before : List PartRow) (row : PartRow) (log : List Event) (old new : PartRead) (fault : PartFault) → IsTaken start parts heads p before row log
+pub part_fault : (start parts : List PartRead) (heads : List (Option ClockedRow)) (p : ℕ) (before : List ClockedRow) (row : ClockedRow) (log : List Event) (old new : PartRead) (fault : PartFault) → IsTaken start parts heads p before row log
     → slice_get parts p ≡ Some old → MeetsPartFault old new fault → IsMergeFaultAfter start (before ++ row ∷ []) log (merge.Part p fault)
 part_fault start parts heads p before row log old new fault t there f =
     (t.many.2, inr (before, row, refl, t.own, others), λ left l. wrong_in p (rows_of p (before ++ row ∷ [])) l.0 left old new fault (gathered_here start parts heads p before row log t l.0 l.1 old there) l.2 f)
@@ -72,13 +73,13 @@ part_fault start parts heads p before row log old new fault t there f =
         goes_on q (before ++ row ∷ []) left s.1 (left_stands parts heads (before ++ row ∷ []) q l.0 left s l.2)
 
 -- the first rows of some parts are held
-pub record HoldFirst (start parts : List PartRead) (heads : List (Option PartRow)) (n : ℕ) : Type 0 where
+pub record HoldFirst (start parts : List PartRead) (heads : List (Option ClockedRow)) (n : ℕ) : Type 0 where
   pub many : (length parts ≡ length start) × (length heads ≡ n) × (n ≤ length start)
-  pub each : (p : ℕ) (was is : PartRead) (head : Option PartRow) → slice_get start p ≡ Some was → slice_get parts p ≡ Some is → slice_get heads p ≡ Some head → StepsPart was is (Ok head)
+  pub each : (p : ℕ) (was is : PartRead) (head : Option ClockedRow) → slice_get start p ≡ Some was → slice_get parts p ≡ Some is → slice_get heads p ≡ Some head → StepsPart was is (Ok head)
   pub later : (p : ℕ) → n ≤ p → slice_get parts p ≡ slice_get start p
 
 -- the first row of a part is wrong
-pub first_fault : (start parts : List PartRead) (heads : List (Option PartRow)) (n : ℕ) (old new : PartRead) (fault : PartFault) → ArePartsUnread start → HoldFirst start parts heads n → slice_get parts n ≡ Some old → MeetsPartFault old new fault
+pub first_fault : (start parts : List PartRead) (heads : List (Option ClockedRow)) (n : ℕ) (old new : PartRead) (fault : PartFault) → ArePartsUnread start → HoldFirst start parts heads n → slice_get parts n ≡ Some old → MeetsPartFault old new fault
     → IsMergeFaultAfter start [] [] (merge.Part n fault)
 first_fault start parts heads n old new fault unread h there f = (omega (arith, slice_get_within parts n old there, h.many.0), inl (refl, before), wrong)
   where
@@ -98,7 +99,7 @@ first_fault start parts heads n old new fault unread h there f = (omega (arith, 
         wrong_in n [] l.0 left old new fault (subst (λ (k : Option Records). GathersPart n k old []) known g) l.2 f
 
 -- one more first row is held
-pub first_more : (start parts : List PartRead) (heads : List (Option PartRow)) (n : ℕ) (old new : PartRead) (head : Option PartRow) → HoldFirst start parts heads n → slice_get parts n ≡ Some old → StepsPart old new (Ok head)
+pub first_more : (start parts : List PartRead) (heads : List (Option ClockedRow)) (n : ℕ) (old new : PartRead) (head : Option ClockedRow) → HoldFirst start parts heads n → slice_get parts n ≡ Some old → StepsPart old new (Ok head)
     → HoldFirst start (set parts n new) (heads ++ head ∷ []) (n + 1)
 first_more start parts heads n old new head h there s = record {
   many = (length-set parts n new ∙ h.many.0, omega (arith, h.many.1, length-append heads (head ∷ [])), omega (arith, h.many.0, slice_get_within parts n old there));
@@ -112,13 +113,13 @@ first_more start parts heads n old new head h there s = record {
     new_there : slice_get (set parts n new) n ≡ Some new
     new_there = get_set_same parts n new (slice_get_within parts n old there)
 
-    at_last : (p : ℕ) (was is : PartRead) (x : Option PartRow) → p ≡ n → x ≡ head → slice_get start p ≡ Some was → slice_get (set parts n new) p ≡ Some is → StepsPart was is (Ok x)
+    at_last : (p : ℕ) (was is : PartRead) (x : Option ClockedRow) → p ≡ n → x ≡ head → slice_get start p ≡ Some was → slice_get (set parts n new) p ≡ Some is → StepsPart was is (Ok x)
     at_last p was is x e x_is f g =
         let was_is : old ≡ was = here was (ap (slice_get start) (sym e) ∙ f) in
         let is_is : new ≡ is = some_same (sym new_there ∙ (ap (slice_get (set parts n new)) (sym e) ∙ g)) in
-        subst (λ (y : Option PartRow). StepsPart was is (Ok y)) (sym x_is) (subst (λ (y : PartRead). StepsPart was y (Ok head)) is_is (subst (λ (y : PartRead). StepsPart y new (Ok head)) was_is s))
+        subst (λ (y : Option ClockedRow). StepsPart was is (Ok y)) (sym x_is) (subst (λ (y : PartRead). StepsPart was y (Ok head)) is_is (subst (λ (y : PartRead). StepsPart y new (Ok head)) was_is s))
 
-    each : (p : ℕ) (was is : PartRead) (x : Option PartRow) → slice_get start p ≡ Some was → slice_get (set parts n new) p ≡ Some is → slice_get (heads ++ head ∷ []) p ≡ Some x → StepsPart was is (Ok x)
+    each : (p : ℕ) (was is : PartRead) (x : Option ClockedRow) → slice_get start p ≡ Some was → slice_get (set parts n new) p ≡ Some is → slice_get (heads ++ head ∷ []) p ≡ Some x → StepsPart was is (Ok x)
     each p was is x e f g = elim (get_push heads head p x g) [
       | inl there ↦
           let other : p ≢ n = λ s. omega (arith, s, slice_get_within heads p x there, h.many.1) in
@@ -127,7 +128,7 @@ first_more start parts heads n old new head h there s = record {
     ]
 
 -- before the first one
-none_there : (p : ℕ) (head : Option PartRow) → slice_get [] p ≡ Some head → ⊥
+none_there : (p : ℕ) (head : Option ClockedRow) → slice_get [] p ≡ Some head → ⊥
 none_there p head e = let none : None ≡ Some head = e in cc none
 
 pub first_none : (start : List PartRead) → HoldFirst start start [] 0

@@ -9,7 +9,7 @@ use Rattle.kt_merge.specs.declared.part_rows.EventWord.{EventWord}
 use Rattle.kt_merge.specs.declared.part_rows.EventWord.TheVariants as word
 use Rattle.kt_merge.specs.declared.part_rows.FieldFault.{FieldFault}
 use Rattle.kt_merge.specs.declared.part_rows.FieldFault.TheVariants as field
-use Rattle.kt_merge.specs.declared.part_rows.PartRow.{PartRow}
+use Rattle.kt_spacetime.specs.declared.named_rows.ClockedRow.{ClockedRow}
 use Rattle.kt_merge.specs.PartSlot.{PartSlot}
 use Rattle.kt_merge.specs.PartSlot as slot
 use Rattle.kt_merge.specs.Spelling.{part_spelling, IsFirstPartMisfit, IsFaultAfterWord, IsFieldFault}
@@ -17,58 +17,58 @@ use Rattle.kt_merge.specs.Texts.{max_records, IsSpellable, IsPartFrom, clock_aft
 use Rattle.kt_merge.proofs.SpellingFacts.{one_row, one_word, six_fields, none_wrong_in}
 
 -- two texts that begin with rows of one process: the one with more goes on with the others' rows
-pub record GoesOnWith (p clock : ℕ) (before rows : List PartRow) (left more : Records) : Type 0 where
-  pub rest : List PartRow
+pub record GoesOnWith (p clock : ℕ) (before rows : List ClockedRow) (left more : Records) : Type 0 where
+  pub rest : List ClockedRow
   pub whole : rows ≡ before ++ rest
   pub is : left ≡ map part_spelling rest ++ more
   pub part : IsPartFrom p (clock_after clock before) rest
 
 -- one more row before
-goes_on_more : (p clock : ℕ) (x y : PartRow) (before rows : List PartRow) (left more : Records) → x ≡ y → GoesOnWith p x.clock before rows left more → GoesOnWith p clock (x ∷ before) (y ∷ rows) left more
+goes_on_more : (p clock : ℕ) (x y : ClockedRow) (before rows : List ClockedRow) (left more : Records) → x ≡ y → GoesOnWith p x.clock before rows left more → GoesOnWith p clock (x ∷ before) (y ∷ rows) left more
 goes_on_more p clock x y before rows left more same g = record {
   rest = g.rest;
-  whole = ap (λ (r : PartRow). r ∷ rows) (sym same) ∙ ap (λ (rs : List PartRow). x ∷ rs) g.whole;
+  whole = ap (λ (r : ClockedRow). r ∷ rows) (sym same) ∙ ap (λ (rs : List ClockedRow). x ∷ rs) g.whole;
   is = g.is;
   part = g.part;
 }
 
-pub goes_on_with : (p clock : ℕ) (before rows : List PartRow) (left more : Records) → IsPartFrom p clock before → IsPartFrom p clock rows → length before ≤ length rows
+pub goes_on_with : (p clock : ℕ) (before rows : List ClockedRow) (left more : Records) → IsPartFrom p clock before → IsPartFrom p clock rows → length before ≤ length rows
     → map part_spelling before ++ left ≡ map part_spelling rows ++ more → GoesOnWith p clock before rows left more
 goes_on_with p clock [] rows left more b r l e = record { rest = rows; whole = refl; is = e; part = r }
 goes_on_with p clock (x ∷ before) [] left more b r l e = absurd (omega (arith, l))
 goes_on_with p clock (x ∷ before) (y ∷ rows) left more b r l e =
     let parts = first_and_rest (part_spelling x) (part_spelling y) (map part_spelling before ++ left) (map part_spelling rows ++ more) e in
     let same : x ≡ y = one_row x y b.0 r.0 parts.0 in
-    let after : IsPartFrom p x.clock rows = subst (λ (z : PartRow). IsPartFrom p z.clock rows) (sym same) r.3 in
+    let after : IsPartFrom p x.clock rows = subst (λ (z : ClockedRow). IsPartFrom p z.clock rows) (sym same) r.3 in
     goes_on_more p clock x y before rows left more same (goes_on_with p x.clock before rows left more b.3 after (omega (arith, l)) parts.1)
 
 -- spellings that are equal are those of equal rows
-one_list : (p clock : ℕ) (rows others : List PartRow) → IsPartFrom p clock rows → IsPartFrom p clock others → map part_spelling rows ≡ map part_spelling others → rows ≡ others
+one_list : (p clock : ℕ) (rows others : List ClockedRow) → IsPartFrom p clock rows → IsPartFrom p clock others → map part_spelling rows ≡ map part_spelling others → rows ≡ others
 one_list p clock [] [] r s e = refl
 one_list p clock [] (x ∷ xs) r s e = cc e
 one_list p clock (x ∷ xs) [] r s e = cc e
 one_list p clock (x ∷ xs) (y ∷ ys) r s e =
     let parts = first_and_rest (part_spelling x) (part_spelling y) (map part_spelling xs) (map part_spelling ys) e in
     let same : x ≡ y = one_row x y r.0 s.0 parts.0 in
-    let rest : xs ≡ ys = one_list p x.clock xs ys r.3 (subst (λ (z : PartRow). IsPartFrom p z.clock ys) (sym same) s.3) parts.1 in
+    let rest : xs ≡ ys = one_list p x.clock xs ys r.3 (subst (λ (z : ClockedRow). IsPartFrom p z.clock ys) (sym same) s.3) parts.1 in
     cc (same, rest)
 
-pub one_part : (p : ℕ) (text : Records) (rows others : List PartRow) → IsPartText p text rows → IsPartText p text others → rows ≡ others
+pub one_part : (p : ℕ) (text : Records) (rows others : List ClockedRow) → IsPartText p text rows → IsPartText p text others → rows ≡ others
 one_part p text rows others r s = one_list p 0 rows others r.part s.part (sym r.spelled ∙ s.spelled)
 
 -- the rows that a text begins with, whatever follows
-length_of : (before rest : List PartRow) → length (before ++ rest) ≡ length before + length rest
+length_of : (before rest : List ClockedRow) → length (before ++ rest) ≡ length before + length rest
 length_of [] rest = omega arith
 length_of (x ∷ before) rest = omega (arith, length_of before rest)
 
 -- a record that spells a row has no wrong field
-pub wrong_field : (row : PartRow) (rest : Records) (f : FieldFault) → IsSpellable row → HasWrongField (part_spelling row ∷ rest) f → ⊥
+pub wrong_field : (row : ClockedRow) (rest : Records) (f : FieldFault) → IsSpellable row → HasWrongField (part_spelling row ∷ rest) f → ⊥
 wrong_field row rest f s h =
     none_wrong_in row h.time h.word h.first h.second h.third h.last f s
     (first_and_rest (part_spelling row) (h.time ∷ h.word ∷ h.first ∷ h.second ∷ h.third ∷ h.last ∷ []) rest h.rest h.is).0 h.wrong
 
 -- a record that says the next row of a process is not wrong
-pub nothing_wrong : (p count clock : ℕ) (row : PartRow) (rest : Records) (fault : PartFault) → IsOfPartText fault → IsSpellable row → clock ≤ row.clock → row.row.p ≡ p → count < max_records
+pub nothing_wrong : (p count clock : ℕ) (row : ClockedRow) (rest : Records) (fault : PartFault) → IsOfPartText fault → IsSpellable row → clock ≤ row.clock → row.row.p ≡ p → count < max_records
     → IsPartFaultFrom p count clock (part_spelling row ∷ rest) fault → ⊥
 nothing_wrong p count clock row rest Read o s l own few h = o.0 refl
 nothing_wrong p count clock row rest Memory o s l own few h = o.1 refl
@@ -80,11 +80,11 @@ nothing_wrong p count clock row rest (Word n) o s l own few h = wrong_field row 
 nothing_wrong p count clock row rest (Number n) o s l own few h = wrong_field row rest field.Number s h.1
 nothing_wrong p count clock row rest (Clock n) o s l own few h =
     let same = one_row row h.1 s h.2.spellable (first_and_rest (part_spelling row) (part_spelling h.1) rest h.2.rest h.2.is).0 in
-    let at_clock : row.clock ≡ h.1.clock = ap (λ (r : PartRow). r.clock) same in
+    let at_clock : row.clock ≡ h.1.clock = ap (λ (r : ClockedRow). r.clock) same in
     omega (arith, l, h.3, at_clock)
 nothing_wrong p count clock row rest (Process n) o s l own few h =
     let same = one_row row h.1 s h.2.spellable (first_and_rest (part_spelling row) (part_spelling h.1) rest h.2.rest h.2.is).0 in
-    h.4 (sym (ap (λ (r : PartRow). r.row.p) same) ∙ own)
+    h.4 (sym (ap (λ (r : ClockedRow). r.row.p) same) ∙ own)
 
 -- where a record is wrong there is one
 has_record : (p count clock : ℕ) (fault : PartFault) → IsOfPartText fault → IsPartFaultFrom p count clock [] fault → ⊥
@@ -98,11 +98,11 @@ has_record p count clock (Clock n) o h = cc h.2.is
 has_record p count clock (Process n) o h = cc h.2.is
 
 -- where rows go on, nothing is wrong
-not_where_rows_go_on : (p clock : ℕ) (before rows : List PartRow) (left more : Records) (fault : PartFault) → IsOfPartText fault → GoesOnWith p clock before rows left more → length before < length rows
+not_where_rows_go_on : (p clock : ℕ) (before rows : List ClockedRow) (left more : Records) (fault : PartFault) → IsOfPartText fault → GoesOnWith p clock before rows left more → length before < length rows
     → length rows ≤ max_records → IsPartFaultFrom p (length before) (clock_after clock before) left fault → ⊥
 not_where_rows_go_on p clock before rows left more fault o g less few h = at_rest g.rest g.whole g.is g.part
   where
-    at_rest : (rest : List PartRow) → rows ≡ before ++ rest → left ≡ map part_spelling rest ++ more → IsPartFrom p (clock_after clock before) rest → ⊥
+    at_rest : (rest : List ClockedRow) → rows ≡ before ++ rest → left ≡ map part_spelling rest ++ more → IsPartFrom p (clock_after clock before) rest → ⊥
     at_rest [] whole is part =
         let none : length rows ≡ length before = ap length (whole ∙ append-nil before) in
         omega (arith, less, none)
@@ -110,7 +110,7 @@ not_where_rows_go_on p clock before rows left more fault o g less few h = at_res
         nothing_wrong p (length before) (clock_after clock before) row (map part_spelling rest ++ more) fault o part.0 part.1 part.2 (omega (arith, less, few))
         (subst (λ (x : Records). IsPartFaultFrom p (length before) (clock_after clock before) x fault) is h)
 
-pub no_part : (p : ℕ) (text : Records) (rows : List PartRow) (fault : PartFault) → IsOfPartText fault → IsFirstPartFault p text fault → IsPartText p text rows → ⊥
+pub no_part : (p : ℕ) (text : Records) (rows : List ClockedRow) (fault : PartFault) → IsOfPartText fault → IsFirstPartFault p text fault → IsPartText p text rows → ⊥
 no_part p text rows fault o first part = elim (cases_lt (length rows) (length first.rows)) [
   | inl less ↦
       let g = goes_on_with p 0 rows first.rows [] first.left part.part first.begins.part (omega (arith, less)) (append-nil (map part_spelling rows) ∙ (sym part.spelled ∙ first.begins.spelled)) in
@@ -123,18 +123,18 @@ no_part p text rows fault o first part = elim (cases_lt (length rows) (length fi
       ]
 ]
   where
-    more_rows : (p : ℕ) (rows others : List PartRow) (more : Records) → GoesOnWith p 0 rows others [] more → length rows < length others → ⊥
+    more_rows : (p : ℕ) (rows others : List ClockedRow) (more : Records) → GoesOnWith p 0 rows others [] more → length rows < length others → ⊥
     more_rows p rows others more g less = at_rest g.rest g.whole g.is
       where
-        at_rest : (rest : List PartRow) → others ≡ rows ++ rest → [] ≡ map part_spelling rest ++ more → ⊥
+        at_rest : (rest : List ClockedRow) → others ≡ rows ++ rest → [] ≡ map part_spelling rest ++ more → ⊥
         at_rest [] whole is = let none : length others ≡ length rows = ap length (whole ∙ append-nil rows) in omega (arith, less, none)
         at_rest (row ∷ rest) whole is = cc is
 
-    at_end : (p : ℕ) (before rows : List PartRow) (left : Records) (fault : PartFault) → IsOfPartText fault → GoesOnWith p 0 before rows left [] → length rows ≡ length before
+    at_end : (p : ℕ) (before rows : List ClockedRow) (left : Records) (fault : PartFault) → IsOfPartText fault → GoesOnWith p 0 before rows left [] → length rows ≡ length before
         → IsPartFaultFrom p (length before) (clock_after 0 before) left fault → ⊥
     at_end p before rows left fault o g same h = at_rest g.rest g.whole g.is
       where
-        at_rest : (rest : List PartRow) → rows ≡ before ++ rest → left ≡ map part_spelling rest ++ [] → ⊥
+        at_rest : (rest : List ClockedRow) → rows ≡ before ++ rest → left ≡ map part_spelling rest ++ [] → ⊥
         at_rest [] whole is = has_record p (length before) (clock_after 0 before) fault o (subst (λ (x : Records). IsPartFaultFrom p (length before) (clock_after 0 before) x fault) is h)
         at_rest (row ∷ rest) whole is = let longer : length rows ≡ length before + length (row ∷ rest) = ap length whole ∙ length_of before (row ∷ rest) in omega (arith, longer, same)
 
@@ -202,7 +202,7 @@ one_wrong_field left f g p q =
     one_in_fields p.time p.word p.first p.second p.third p.last f g p.wrong h6
 
 -- a record that says a row has no wrong field
-says_none_wrong : (left : Records) (row : PartRow) (f : FieldFault) → SaysRow left row → HasWrongField left f → ⊥
+says_none_wrong : (left : Records) (row : ClockedRow) (f : FieldFault) → SaysRow left row → HasWrongField left f → ⊥
 says_none_wrong left row f s h = wrong_field row s.rest f s.spellable (subst (λ (x : Records). HasWrongField x f) s.is h)
 
 -- a record whose fields are counted wrongly
@@ -214,16 +214,16 @@ six_of_wrong left f h m =
     let same = (first_and_rest (h.time ∷ h.word ∷ h.first ∷ h.second ∷ h.third ∷ h.last ∷ []) m.0 h.rest m.1 (sym h.is ∙ m.2)).0 in
     m.3 (sym (ap length same))
 
-six_of_row : (left : Records) (row : PartRow) → SaysRow left row → Miscounted left → ⊥
+six_of_row : (left : Records) (row : ClockedRow) → SaysRow left row → Miscounted left → ⊥
 six_of_row left row s m = m.3 (sym (ap length (first_and_rest (part_spelling row) m.0 s.rest m.1 (sym s.is ∙ m.2)).0) ∙ six_fields row)
 
 -- a record says one row
-one_said : (left : Records) (row other : PartRow) → SaysRow left row → SaysRow left other → row ≡ other
+one_said : (left : Records) (row other : ClockedRow) → SaysRow left row → SaysRow left other → row ≡ other
 one_said left row other s t = one_row row other s.spellable t.spellable (first_and_rest (part_spelling row) (part_spelling other) s.rest t.rest (sym s.is ∙ t.is)).0
 
-falls_and_rises : (left : Records) (clock : ℕ) (row other : PartRow) → SaysRow left row → SaysRow left other → row.clock < clock → clock ≤ other.clock → ⊥
+falls_and_rises : (left : Records) (clock : ℕ) (row other : ClockedRow) → SaysRow left row → SaysRow left other → row.clock < clock → clock ≤ other.clock → ⊥
 falls_and_rises left clock row other s t l r =
-    let same : row.clock ≡ other.clock = ap (λ (x : PartRow). x.clock) (one_said left row other s t) in
+    let same : row.clock ≡ other.clock = ap (λ (x : ClockedRow). x.clock) (one_said left row other s t) in
     omega (arith, l, r, same)
 
 -- after some rows one thing is first wrong
@@ -270,15 +270,15 @@ one_part_fault p count clock left (Process n) (Clock m) o u h k = absurd (falls_
 one_part_fault p count clock left (Process n) (Process m) o u h k = ap Process (h.0.0 ∙ sym k.0.0)
 
 -- after as many rows the same is left
-same_place : (p : ℕ) (before rows : List PartRow) (left more : Records) (f g : PartFault) → IsOfPartText f → IsOfPartText g → GoesOnWith p 0 before rows left more → length rows ≡ length before
+same_place : (p : ℕ) (before rows : List ClockedRow) (left more : Records) (f g : PartFault) → IsOfPartText f → IsOfPartText g → GoesOnWith p 0 before rows left more → length rows ≡ length before
     → IsPartFaultFrom p (length before) (clock_after 0 before) left f → IsPartFaultFrom p (length rows) (clock_after 0 rows) more g → f ≡ g
 same_place p before rows left more f g o u goes same h k = at_rest goes.rest goes.whole goes.is
   where
-    at_rest : (rest : List PartRow) → rows ≡ before ++ rest → left ≡ map part_spelling rest ++ more → f ≡ g
+    at_rest : (rest : List ClockedRow) → rows ≡ before ++ rest → left ≡ map part_spelling rest ++ more → f ≡ g
     at_rest (row ∷ rest) whole is = let longer : length rows ≡ length before + length (row ∷ rest) = ap length whole ∙ length_of before (row ∷ rest) in absurd (omega (arith, longer, same))
     at_rest [] whole is =
         let rows_same : rows ≡ before = whole ∙ append-nil before in
-        let k_there = subst (λ (r : List PartRow). IsPartFaultFrom p (length r) (clock_after 0 r) more g) rows_same k in
+        let k_there = subst (λ (r : List ClockedRow). IsPartFaultFrom p (length r) (clock_after 0 r) more g) rows_same k in
         let h_there = subst (λ (x : Records). IsPartFaultFrom p (length before) (clock_after 0 before) x f) is h in
         one_part_fault p (length before) (clock_after 0 before) more f g o u h_there k_there
 

@@ -6,13 +6,13 @@ use Rattle.kt_spacetime.specs.declared.named_rows.NamedEvent.{NamedEvent}
 use Rattle.kt_spacetime.specs.declared.named_rows.NamedEvent.TheVariants as own
 use Rattle.kt_meaning.specs.Names.{name_of}
 use Rattle.kt_merge.specs.declared.part_fault.PartFault.TheVariants as part
-use Rattle.kt_merge.specs.declared.part_rows.PartRow.{PartRow}
+use Rattle.kt_spacetime.specs.declared.named_rows.ClockedRow.{ClockedRow}
+use Rattle.kt_spacetime.specs.ClockedRows.{rows_of}
 use Rattle.kt_merge.specs.declared.giver.Name.{Name}
 use Rattle.kt_merge.specs.declared.giver.Name.TheVariants as name
 use Rattle.kt_merge.specs.declared.fault.RowFault.TheVariants as wrong
 use Rattle.kt_merge.specs.declared.fault.MergeFault.{MergeFault}
 use Rattle.kt_merge.specs.declared.fault.MergeFault.TheVariants as merge
-use Rattle.kt_merge.specs.Merging.{rows_of}
 
 -- how many messages, and how many instances, a row gives a name
 abbrev pub messages_given : NamedEvent → ℕ
@@ -30,7 +30,7 @@ GivesNext p messages instances (own.Began inst kind) = inst ≡ name_of p (insta
 GivesNext p messages instances _ = Unit {0}
 
 -- rows of one process give its names in order
-abbrev pub GiveInOrder : ℕ → ℕ → ℕ → List PartRow → Type 0
+abbrev pub GiveInOrder : ℕ → ℕ → ℕ → List ClockedRow → Type 0
 GiveInOrder p messages instances [] = Unit {0}
 GiveInOrder p messages instances (r ∷ rows) =
     GivesNext p messages instances r.row.event
@@ -59,21 +59,21 @@ EachName Is (own.Refused verb c) = EachNameOfCause Is c
 EachName Is _ = Unit {0}
 
 -- a row comes before another one by its clock, or else by its process
-abbrev pub IsEarlier : PartRow → PartRow → Type 0
+abbrev pub IsEarlier : ClockedRow → ClockedRow → Type 0
 IsEarlier a b = (a.clock < b.clock) ⊎ ((a.clock ≡ b.clock) × (a.row.p < b.row.p))
 
 -- a row gives this name that comes before the row in this place, or stands before it in the same part
-pub record IsGivenBefore (rows : List PartRow) (i : ℕ) (r : PartRow) (n : Name) : Type 0 where
+pub record IsGivenBefore (rows : List ClockedRow) (i : ℕ) (r : ClockedRow) (n : Name) : Type 0 where
   pub place : ℕ
-  pub row : PartRow
+  pub row : ClockedRow
   pub stands : slice_get rows place ≡ Some row
   pub gives : name_given row.row.p row.row.event ≡ Some n
   pub before : IsEarlier row r ⊎ ((row.row.p ≡ r.row.p) × (place < i))
 
 -- each process gives its names in order, and each name is given before it is used
-pub record AreCausal (rows : List PartRow) : Type 0 where
+pub record AreCausal (rows : List ClockedRow) : Type 0 where
   pub in_order : (p : ℕ) → GiveInOrder p 0 0 (rows_of p rows)
-  pub given : (i : ℕ) (r : PartRow) → slice_get rows i ≡ Some r → EachName (IsGivenBefore rows i r) r.row.event
+  pub given : (i : ℕ) (r : ClockedRow) → slice_get rows i ≡ Some r → EachName (IsGivenBefore rows i r) r.row.event
 
 -- a fault of readers, writers and memory, or a limit of logs
 abbrev pub IsOfLimits : MergeFault → Type 0

@@ -3,7 +3,7 @@ use Rattle.std.specs.Prelude.{◌≡◌, ◌<◌, ◌≤◌, ◌+◌, ℕ, Bool,
 use Rattle.csv.specs.Reading.{default_config, strip_bom, records}
 use Rattle.kt_text.specs.Records.{FieldsTaken}
 use Rattle.kt_merge.specs.declared.part_fault.PartFault.{PartFault}
-use Rattle.kt_merge.specs.declared.part_rows.PartRow.{PartRow}
+use Rattle.kt_spacetime.specs.declared.named_rows.ClockedRow.{ClockedRow}
 use Rattle.kt_merge.specs.Spelling.{part_spelling}
 use Rattle.kt_merge.specs.Texts.{max_records, IsSpellable, IsPartFaultFrom}
 
@@ -30,7 +30,7 @@ abbrev pub IsPartUnread : PartRead → Type 0
 IsPartUnread part = (source : Option (List ℕ)) × (part ≡ part_unread part.process source)
 
 -- a row was given: the next one of the text
-pub record GivesPartRow (old new : PartRead) (row : PartRow) : Type 0 where
+pub record GivesPartRow (old new : PartRead) (row : ClockedRow) : Type 0 where
   pub takes : FieldsTaken old.left new.left (part_spelling row)
   pub spellable : IsSpellable row
   pub rises : old.clock ≤ row.clock
@@ -54,7 +54,7 @@ pub record MeetsPartFault (old new : PartRead) (fault : PartFault) : Type 0 wher
   pub first : old.fault ≡ None → IfSome old.left (λ left. IsPartFaultFrom old.process old.count old.clock left fault)
 
 -- what one call gives
-abbrev pub StepsPart : PartRead → PartRead → Result (Option PartRow) PartFault → Type 0
+abbrev pub StepsPart : PartRead → PartRead → Result (Option ClockedRow) PartFault → Type 0
 StepsPart old new (Ok (Some row)) = GivesPartRow old new row
 StepsPart old new (Ok None) = MeetsPartEnd old new
 StepsPart old new (Err fault) = MeetsPartFault old new fault

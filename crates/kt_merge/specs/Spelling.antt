@@ -19,7 +19,7 @@ use Rattle.kt_merge.specs.declared.part_rows.EventWord.{EventWord}
 use Rattle.kt_merge.specs.declared.part_rows.EventWord.TheVariants as word
 use Rattle.kt_merge.specs.declared.part_rows.FieldFault.{FieldFault}
 use Rattle.kt_merge.specs.declared.part_rows.FieldFault.TheVariants as fault
-use Rattle.kt_merge.specs.declared.part_rows.PartRow.{PartRow}
+use Rattle.kt_spacetime.specs.declared.named_rows.ClockedRow.{ClockedRow}
 use Rattle.kt_merge.specs.PartSlot.{PartSlot}
 use Rattle.kt_merge.specs.PartSlot as slot
 use Rattle.kt_text.specs.Words.{kind_word, decision_word}
@@ -73,7 +73,7 @@ abbrev pub event_spelling : NamedRow → List (List ℕ)
 event_spelling row = fields_by row.p row.event
 
 -- the six fields of a row
-abbrev pub part_spelling : PartRow → List (List ℕ)
+abbrev pub part_spelling : ClockedRow → List (List ℕ)
 part_spelling row = decimal row.clock ∷ event_spelling row.row
 
 -- an instance that a process begins or decides is its own

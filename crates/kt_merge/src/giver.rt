@@ -1,12 +1,11 @@
 //! Where the row stands that gives what another one names too early.
 
 use crate::fault::MergeFault;
-use crate::part_rows::PartRow;
 use crate::parts::Parts;
 use crate::reading::PartReader;
 use crate::tables::Numbers;
 use kt_base::ProcNo;
-use kt_spacetime::{Count, InstName, NamedCause, NamedEvent};
+use kt_spacetime::{ClockedRow, Count, InstName, NamedCause, NamedEvent};
 use std::io::Read;
 
 /// Where the row stands that gives a name.
@@ -98,7 +97,7 @@ impl Numbers {
 
 /// The name for which a merge stopped at a row, by the next row of each part.
 pub(crate) fn missing_at(
-    heads: &[Option<PartRow>],
+    heads: &[Option<ClockedRow>],
     numbers: &Numbers,
     merged: &Result<(), MergeFault>,
 ) -> Option<Name> {

@@ -1,14 +1,14 @@
 //! The next row of each part, and which of them comes first.
 
 ghost use Rattle.std.specs.Prelude.{◌≡◌, ◌+◌, List, Option, Some, slice_get, IfSome, IfNone};
-ghost use Rattle.kt_merge.specs.declared.part_rows.PartRow.{PartRow as part_rows};
+ghost use Rattle.kt_spacetime.specs.declared.named_rows.ClockedRow.{ClockedRow as clocked_rows};
 ghost use Rattle.kt_merge.specs.Heads.{IsLeastHead, HasNoHead, IsBestClock};
 
-use crate::part_rows::PartRow;
+use kt_spacetime::ClockedRow;
 
 /// Which part has the row that comes first, and that row; None where no part has a next row.
 #[inline(always)]
-pub(crate) fn least(heads: &[Option<PartRow>]) -> Option<(usize, PartRow)>
+pub(crate) fn least(heads: &[Option<ClockedRow>]) -> Option<(usize, ClockedRow)>
     ensures found { IfSome result (λ r. IsLeastHead heads.now r.0 r.1) }
     ensures none { IfNone result (HasNoHead heads.now) }
 {
@@ -26,7 +26,7 @@ pub(crate) fn least(heads: &[Option<PartRow>]) -> Option<(usize, PartRow)>
 // Of the first of some clocks and the next part's clock the one that comes first.
 #[inline(always)]
 fn earlier(best: Option<(usize, u64)>, part: usize, clock: u64) -> Option<(usize, u64)>
-    ensures { (heads : List (Option part_rows)) (row : part_rows) → IsBestClock heads part best →
+    ensures { (heads : List (Option clocked_rows)) (row : clocked_rows) → IsBestClock heads part best →
         slice_get heads part ≡ Some (Some row) → row.clock ≡ clock → IsBestClock heads (part + 1) result }
 {
     match best {

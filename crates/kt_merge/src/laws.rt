@@ -6,9 +6,10 @@ ghost use Rattle.kt_spacetime.specs.declared.event.Event.{Event as events};
 ghost use Rattle.kt_merge.specs.declared.fault.MergeFault.{MergeFault as merge_faults};
 ghost use Rattle.kt_merge.specs.Causal.{AreCausal, IsOfLimits};
 ghost use Rattle.kt_merge.specs.Heads.{IsNotLater};
-ghost use Rattle.kt_merge.specs.declared.part_rows.PartRow.{PartRow as part_rows};
+ghost use Rattle.kt_spacetime.specs.declared.named_rows.ClockedRow.{ClockedRow as clocked_rows};
+ghost use Rattle.kt_spacetime.specs.ClockedRows.{without_clocks};
 ghost use Rattle.kt_merge.specs.Reading.{PartRead as parts_read};
-ghost use Rattle.kt_merge.specs.Merging.{IsMergeOf, IsRowwise, AreKnown, StopsMerge, WritesMerge, without_clocks};
+ghost use Rattle.kt_merge.specs.Merging.{IsMergeOf, IsRowwise, AreKnown, StopsMerge, WritesMerge};
 
 /// Where the log of a merge was written, names can be put back: each process's rows are then those of its part, none added and
 /// none lost.
@@ -21,7 +22,7 @@ pub fn names_put_back()
 
 /// Parts whose texts are known have one merge.
 pub fn one_merge()
-    ensures { (parts : List parts_read) (rows others : List part_rows) → AreKnown parts → IsMergeOf parts rows →
+    ensures { (parts : List parts_read) (rows others : List clocked_rows) → AreKnown parts → IsMergeOf parts rows →
         IsMergeOf parts others → rows ≡ others }
 {}
 
@@ -29,9 +30,9 @@ pub fn one_merge()
 /// uses it, have a log. Where the rows of parts have one, nothing stops their merge but readers, writers, memory and the limits
 /// of a log.
 pub fn causal_parts_merge()
-    ensures log { (rows : List part_rows) → AllPairs IsNotLater rows → AreCausal rows →
+    ensures log { (rows : List clocked_rows) → AllPairs IsNotLater rows → AreCausal rows →
         (log : List events) × (numbered (without_clocks rows) ≡ Some log) }
-    ensures faults { (parts : List parts_read) (rows : List part_rows) (log : List events) (old new : Option (List ℕ))
+    ensures faults { (parts : List parts_read) (rows : List clocked_rows) (log : List events) (old new : Option (List ℕ))
         (fault : merge_faults) → AreKnown parts → IsMergeOf parts rows → numbered (without_clocks rows) ≡ Some log →
         StopsMerge parts old new fault → IsOfLimits fault }
 {}

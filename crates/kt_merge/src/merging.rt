@@ -16,13 +16,12 @@ use crate::fault::MergeFault;
 use crate::giver::missing_at;
 use crate::heads::least;
 use crate::laws::names_put_back;
-use crate::part_rows::PartRow;
 use crate::parts::Parts;
 use crate::reading::PartReader;
 use crate::rows::{push_header, push_row};
 use crate::tables::Numbers;
 use kt_base::{Memory, ProcNo};
-use kt_spacetime::{Event, NamedRow};
+use kt_spacetime::{ClockedRow, Event, NamedRow};
 use kt_text::WriteFault;
 use kt_text::pieces::{new_text, write_full, write_rest};
 use std::alloc::Global;
@@ -58,7 +57,7 @@ pub fn merge_parts<R: Read + Drop, W: Write>(
 // The same, with the tables of what no row gave yet, and the text that is gathered.
 fn merge_readers<R: Read + Drop, W: Write>(
     parts: &mut Vec<PartReader<R>>,
-    heads: &mut Vec<Option<PartRow>>,
+    heads: &mut Vec<Option<ClockedRow>>,
     numbers: &mut Numbers,
     text: &mut Vec<u8>,
     writer: &mut W,
@@ -83,7 +82,7 @@ fn merge_readers<R: Read + Drop, W: Write>(
 // Reads the first row of each part.
 fn read_heads<R: Read + Drop>(
     parts: &mut Vec<PartReader<R>>,
-    heads: &mut Vec<Option<PartRow>>,
+    heads: &mut Vec<Option<ClockedRow>>,
 ) -> Result<(), MergeFault>
     requires few { length parts.old.items ≤ 64 }
     requires unread { ArePartsUnread parts.old.items }
@@ -111,7 +110,7 @@ fn push_item<T: Drop>(items: &mut Vec<T>, item: T) -> Result<(), Memory>
 fn next_head<R: Read + Drop>(
     reader: &mut PartReader<R>,
     part: usize,
-) -> Result<Option<PartRow>, MergeFault>
+) -> Result<Option<ClockedRow>, MergeFault>
     requires { part < 64 }
     ensures found { IfOk result (λ head. StepsPart reader.old reader.new (Ok head)) }
     ensures fault { IfErr result (λ e. (fault : part_faults) × (e ≡ MergeFault.Part part fault)

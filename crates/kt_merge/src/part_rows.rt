@@ -16,15 +16,8 @@ ghost use Rattle.kt_merge.specs.Texts.{fault_at_record};
 use crate::names::{clock_of, instance_of, own_count};
 use crate::part_fault::PartFault;
 use kt_base::{Kind, ProcNo, Verb};
-use kt_spacetime::{Count, InstName, NamedCause, NamedEvent, NamedRow};
+use kt_spacetime::{ClockedRow, Count, InstName, NamedCause, NamedEvent, NamedRow};
 use kt_text::fields::{body_of, decision_of, kind_of, process_of};
-
-/// A row of a part: the clock of its process at that time, and the row by names.
-#[derive(Clone, Copy)]
-pub struct PartRow {
-    pub clock: u64,
-    pub row: NamedRow,
-}
 
 /// The word that names what a row says.
 #[derive(Clone, Copy)]
@@ -444,7 +437,7 @@ pub(crate) fn row_of(
     second: &[u8],
     third: &[u8],
     last: &[u8],
-) -> Result<PartRow, FieldFault>
+) -> Result<ClockedRow, FieldFault>
     ensures found { IfOk result (λ r. (part_spelling r
         ≡ time.now ∷ word.now ∷ first.now ∷ second.now ∷ third.now ∷ last.now ∷ [])
         × (r.clock < 2 ^ 64) × IsFormed r.row) }
@@ -455,5 +448,5 @@ pub(crate) fn row_of(
         return Err(FieldFault::Word);
     };
     let row = row_after(word, first, second, third, last)?;
-    Ok(PartRow { clock, row })
+    Ok(ClockedRow { clock, row })
 }

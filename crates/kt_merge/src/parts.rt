@@ -5,9 +5,9 @@ ghost use Rattle.kt_merge.specs.Reading.{part_unread};
 ghost use Rattle.kt_merge.specs.Merging.{ArePartsUnread};
 
 use crate::giver::Name;
-use crate::part_rows::PartRow;
 use crate::reading::PartReader;
 use kt_base::{Memory, ProcNo};
+use kt_spacetime::ClockedRow;
 use std::alloc::Global;
 use std::io::Read;
 use std::marker::Model;
@@ -17,7 +17,7 @@ use std::marker::Model;
 #[derive(Drop)]
 pub struct Parts<R: Read + Drop> {
     pub(crate) readers: Vec<PartReader<R>>,
-    pub(crate) heads: Vec<Option<PartRow>>,
+    pub(crate) heads: Vec<Option<ClockedRow>>,
     pub(crate) missing: Option<Name>,
 }
 

@@ -9,10 +9,11 @@ ghost use Rattle.kt_merge.specs.Texts.{max_records, IsSpellable, IsPartFaultFrom
 ghost use Rattle.kt_merge.specs.Reading.{part_unread, part_records, IsPartUnread, StepsPart};
 
 use crate::part_fault::PartFault;
-use crate::part_rows::{PartRow, row_of};
+use crate::part_rows::row_of;
 use csv::{ByteRecord, Reader};
 use kt_base::{Memory, ProcNo};
 use kt_log_text::Record;
+use kt_spacetime::ClockedRow;
 use kt_text::records::{next_record, read_records};
 use std::alloc::Global;
 use std::io::Read;
@@ -49,7 +50,7 @@ fn six_fields(current: &ByteRecord) -> Option<(&[u8], &[u8], &[u8], &[u8], &[u8]
 
 // The row that a record says, after `count` rows.
 #[inline(always)]
-fn row_in(current: &ByteRecord, count: u32) -> Result<PartRow, PartFault>
+fn row_in(current: &ByteRecord, count: u32) -> Result<ClockedRow, PartFault>
     requires { count ≤ max_records }
     ensures found { IfOk result (λ row. (fields_of current.now ≡ part_spelling row) × IsSpellable row
         × (count < max_records)) }
@@ -76,7 +77,7 @@ fn own_row_in(
     process: ProcNo,
     count: u32,
     clock: u64,
-) -> Result<PartRow, PartFault>
+) -> Result<ClockedRow, PartFault>
     requires { count ≤ max_records }
     ensures found { IfOk result (λ row. (fields_of current.now ≡ part_spelling row) × IsSpellable row
         × (count < max_records) × (clock ≤ row.clock) × (row.row.p ≡ process)) }
@@ -101,7 +102,7 @@ fn read_row<R: Read>(
     process: ProcNo,
     count: u32,
     clock: u64,
-) -> Result<Option<PartRow>, PartFault>
+) -> Result<Option<ClockedRow>, PartFault>
     requires reading { ReadsOn records.old }
     requires count { count ≤ max_records }
     ensures row { IfOk result (λ o. IfSome o (λ row. FieldsTaken (left_in R.remaining records.old)
@@ -170,7 +171,7 @@ impl<R: Read + Drop> PartReader<R> {
 
     /// The next row, None at the end of the text, or the first fault.
     #[inline(always)]
-    pub fn next(&mut self) -> Result<Option<PartRow>, PartFault>
+    pub fn next(&mut self) -> Result<Option<ClockedRow>, PartFault>
         ensures steps { StepsPart self.old self.new result }
         ensures done { self.old.ended ≡ true → (result ≡ Ok None) × (self.new ≡ self.old) }
         ensures failed { IfSome self.old.fault (λ fault. (result ≡ Err fault) × (self.new ≡ self.old)) }
@@ -227,7 +228,7 @@ pub fn read_part<R: Read + Drop>(
     alloc: Global,
     reader: R,
     process: ProcNo,
-) -> Result<Vec<PartRow>, PartFault>
+) -> Result<Vec<ClockedRow>, PartFault>
     ensures found { IfOk result (λ rows. IfSome (R.remaining reader) (λ bytes. IsPartText process (records default_config (strip_bom bytes)) rows.items)) }
     ensures fault { IfErr result (λ e. IfSome (R.remaining reader) (λ bytes. IsFirstPartFault process (records default_config (strip_bom bytes)) e)) }
 {

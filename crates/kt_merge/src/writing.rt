@@ -7,9 +7,8 @@ ghost use Rattle.kt_log_text.specs.Spelling.{verb_word};
 ghost use Rattle.kt_text.specs.Writing.{joined, line_of, text_of, WritesFront};
 ghost use Rattle.kt_merge.specs.Spelling.{name_word, instance_word, named_cause_word, fields_by, part_spelling};
 
-use crate::part_rows::PartRow;
 use kt_base::{Memory, ProcNo, Verb};
-use kt_spacetime::{Count, InstName, NamedCause, NamedEvent};
+use kt_spacetime::{ClockedRow, Count, InstName, NamedCause, NamedEvent};
 use kt_text::WriteFault;
 use kt_text::fields::{decision_text, kind_text};
 use kt_text::pieces::{new_text, push_field, push_number, write_full, write_rest};
@@ -22,7 +21,7 @@ use std::io::Write;
 /// is written.
 pub fn write_part<W: Write>(
     alloc: Global,
-    rows: &[PartRow],
+    rows: &[ClockedRow],
     writer: &mut W,
 ) -> Result<(), WriteFault>
     ensures written { OnOk result (Appends (W.contents writer.old) (W.contents writer.new)
@@ -39,7 +38,7 @@ pub fn write_part<W: Write>(
 }
 
 // Gathers a row's record.
-fn push_row(text: &mut Vec<u8>, row: PartRow) -> Result<(), Memory>
+fn push_row(text: &mut Vec<u8>, row: ClockedRow) -> Result<(), Memory>
     ensures { OnOk result (text.new.items ≡ text.old.items ++ line_of (part_spelling row)) }
 {
     push_decimal(text, row.clock)?;

@@ -7,7 +7,7 @@ use Rattle.kt_tables.specs.Peers.{IsCohort}
 use Rattle.kt_process.specs.Asks.{is_asked_in}
 use Rattle.kt_process.proofs.Cohorts.{Pairs, cohort_asked}
 use Rattle.kt_spacetime.specs.declared.names.InstName.{InstName}
-use Rattle.kt_net.specs.declared.parcels.NodeParcel.TheVariants.{Ask}
+use Rattle.kt_node.specs.declared.parcels.NodeParcel.TheVariants.{Ask}
 use Rattle.kt_node.specs.Effects.{label_for, ask_with}
 
 same_number : (a b : ℕ) → (a == b) ≡ true → a ≡ b

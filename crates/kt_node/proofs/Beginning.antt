@@ -25,12 +25,12 @@ use Rattle.kt_system.specs.Shown.{begin_verb}
 use Rattle.kt_spacetime.specs.declared.names.InstName.{InstName}
 use Rattle.kt_spacetime.specs.declared.named_rows.NamedEvent.{NamedEvent}
 use Rattle.kt_spacetime.specs.declared.named_rows.NamedEvent.TheVariants.{Began}
-use Rattle.kt_net.specs.Erasing.{erased_parcel}
-use Rattle.kt_net.specs.Nodes.{NodeLists, NodeState, Doing}
-use Rattle.kt_net.specs.NodeClosing.{settling}
-use Rattle.kt_net.specs.NodeMessages.{refusing, unable}
-use Rattle.kt_net.specs.NodeJoining.{next_name}
-use Rattle.kt_net.specs.NodeSteps.{starting, told_to_begin}
+use Rattle.kt_node.specs.Erasing.{erased_parcel}
+use Rattle.kt_node.specs.Nodes.{NodeLists, NodeState, Doing}
+use Rattle.kt_node.specs.NodeClosing.{settling}
+use Rattle.kt_node.specs.NodeMessages.{refusing, unable}
+use Rattle.kt_node.specs.NodeJoining.{next_name}
+use Rattle.kt_node.specs.NodeSteps.{starting, told_to_begin}
 use Rattle.kt_node.specs.Managers.{ManagerState, HoldsFor, ShowsNode, no_name, number_for, process_of}
 use Rattle.kt_node.specs.Turns.{able_in, marks_in, named_cause, joined_in}
 

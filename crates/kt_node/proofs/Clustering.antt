@@ -17,14 +17,14 @@ use Rattle.kt_spacetime.specs.declared.event.Event.{Event}
 use Rattle.kt_spacetime.specs.declared.named_rows.NamedEvent.{NamedEvent}
 use Rattle.kt_spacetime.specs.declared.named_rows.NamedRow.{NamedRow}
 use Rattle.kt_tables.specs.Calls.{Speaks}
-use Rattle.kt_net.specs.Nodes.{NodeState, Input}
-use Rattle.kt_net.specs.NodeSteps.{node_after}
-use Rattle.kt_net.specs.Nets.{Net, net_step, net_run, opening_net}
-use Rattle.kt_net.specs.Clocks.{Envelope, ClockedNet, envelope, clocked_row, source_of, input_at, clock_after, left_after, clocked_input, clocked_doing, at_input, clocked_step, clocked_run, opening_clocked, acts_at, clocked_acts}
-use Rattle.kt_net.specs.Erasing.{rows_from}
-use Rattle.kt_net.specs.declared.parcels.NodeParcel.{NodeParcel}
-use Rattle.kt_net.specs.declared.rows.ClockedRow.{ClockedRow}
-use Rattle.kt_net.proofs.Unclocked.{step_unclocked, run_unclocked, rows_unclocked}
+use Rattle.kt_node.specs.Nodes.{NodeState, Input}
+use Rattle.kt_node.specs.NodeSteps.{node_after}
+use Rattle.kt_node.specs.Nets.{Net, net_step, net_run, opening_net}
+use Rattle.kt_node.specs.Clocks.{Envelope, ClockedNet, envelope, clocked_row, source_of, input_at, clock_after, left_after, clocked_input, clocked_doing, at_input, clocked_step, clocked_run, opening_clocked, acts_at, clocked_acts}
+use Rattle.kt_node.specs.Erasing.{rows_from}
+use Rattle.kt_node.specs.declared.parcels.NodeParcel.{NodeParcel}
+use Rattle.kt_spacetime.specs.declared.named_rows.ClockedRow.{ClockedRow}
+use Rattle.kt_node.proofs.Unclocked.{step_unclocked, run_unclocked, rows_unclocked}
 use Rattle.kt_node.specs.declared.cluster.ClusterFault.{ClusterFault}
 use Rattle.kt_node.specs.declared.cluster.ClusterFault.TheVariants as fault
 use Rattle.kt_node.specs.declared.cluster.OnWay.{OnWay}

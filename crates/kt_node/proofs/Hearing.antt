@@ -16,12 +16,12 @@ use Rattle.kt_spacetime.specs.declared.names.InstName.{InstName}
 use Rattle.kt_spacetime.specs.declared.named_rows.NamedCause.TheVariants.{Busy}
 use Rattle.kt_spacetime.specs.declared.named_rows.NamedEvent.{NamedEvent}
 use Rattle.kt_plan.specs.declared.steps.Act.TheVariants as answered
-use Rattle.kt_net.specs.declared.parcels.NodeParcel.TheVariants as put
-use Rattle.kt_net.specs.Nodes.{NodeState, Doing, nothing}
-use Rattle.kt_net.specs.NodeClosing.{settling}
-use Rattle.kt_net.specs.NodeMessages.{unable}
-use Rattle.kt_net.specs.NodeJoining.{joining_checkpoint, joining_rollback, replying, unwilling, noting}
-use Rattle.kt_net.specs.NodeSteps.{is_one, taking}
+use Rattle.kt_node.specs.declared.parcels.NodeParcel.TheVariants as put
+use Rattle.kt_node.specs.Nodes.{NodeState, Doing, nothing}
+use Rattle.kt_node.specs.NodeClosing.{settling}
+use Rattle.kt_node.specs.NodeMessages.{unable}
+use Rattle.kt_node.specs.NodeJoining.{joining_checkpoint, joining_rollback, replying, unwilling, noting}
+use Rattle.kt_node.specs.NodeSteps.{is_one, taking}
 use Rattle.kt_node.specs.Managers.{ManagerState, HoldsFor, ShowsNode, number_for, process_of}
 use Rattle.kt_node.specs.declared.effects.Effects.{Effects}
 use Rattle.kt_node.specs.declared.effects.Parcels.TheVariants as puts

@@ -14,11 +14,11 @@ use Rattle.kt_system.proofs.Ranges.{back_in, gone}
 use Rattle.kt_process.specs.ProcessStates.{ProcessState}
 use Rattle.kt_process.specs.Shown.{IsSeenAs}
 use Rattle.kt_spacetime.specs.declared.names.InstName.{InstName}
-use Rattle.kt_net.specs.declared.parcels.NodeParcel.{NodeParcel}
-use Rattle.kt_net.specs.Nodes.{NodeLists, NodeState, with_one}
-use Rattle.kt_net.specs.NodeClosing.{forgets, within, after_checkpoint, after_rollback}
-use Rattle.kt_net.specs.Erasing.{erased_parcel, erased_parcels}
-use Rattle.kt_net.proofs.Columns.{within_is}
+use Rattle.kt_node.specs.declared.parcels.NodeParcel.{NodeParcel}
+use Rattle.kt_node.specs.Nodes.{NodeLists, NodeState, with_one}
+use Rattle.kt_node.specs.NodeClosing.{forgets, within, after_checkpoint, after_rollback}
+use Rattle.kt_node.specs.Erasing.{erased_parcel, erased_parcels}
+use Rattle.kt_node.proofs.Columns.{within_is}
 use Rattle.kt_node.specs.Managers.{ManagerState, HoldsFor, ShowsNode, IsSameManager, IsTurned, no_name, lists_to, process_of, after_closing}
 
 -- the lists to p by names

@@ -9,7 +9,7 @@ use Rattle.kt_base.specs.declared.words.Kind.TheVariants as kind
 use Rattle.kt_process.specs.ProcessStates.{ProcessState, inst_of}
 use Rattle.kt_process.specs.Turns.{joins_by}
 use Rattle.kt_process.specs.Shown.{IsSeenAs}
-use Rattle.kt_net.specs.Nodes.{NodeState}
+use Rattle.kt_node.specs.Nodes.{NodeState}
 use Rattle.kt_node.specs.Managers.{process_of}
 
 takes_is : (t : State) (calls : List Call) (q l : ℕ) → standing.TablesStandFor t calls → standing.must_take t q l ≡ must_take calls q l

@@ -11,12 +11,12 @@ use Rattle.kt_machine.specs.Seen.{SeenProcess}
 use Rattle.kt_process.specs.ProcessStates.{ProcessState}
 use Rattle.kt_process.specs.Shown.{IsSeenAs}
 use Rattle.kt_spacetime.specs.declared.named_rows.NamedEvent.TheVariants.{Received}
-use Rattle.kt_net.specs.declared.parcels.NodeParcel.{NodeParcel}
-use Rattle.kt_net.specs.declared.parcels.NodeParcel.TheVariants as put
-use Rattle.kt_net.specs.Nodes.{NodeLists, NodeState, Doing, with_one, is_in_rollback, Held}
-use Rattle.kt_net.specs.NodeMessages.{receiving, arriving, holding, taking_held}
-use Rattle.kt_net.specs.NodeSteps.{node_after, taking}
-use Rattle.kt_net.specs.Erasing.{erased_parcel, erased_parcels}
+use Rattle.kt_node.specs.declared.parcels.NodeParcel.{NodeParcel}
+use Rattle.kt_node.specs.declared.parcels.NodeParcel.TheVariants as put
+use Rattle.kt_node.specs.Nodes.{NodeLists, NodeState, Doing, with_one, is_in_rollback, Held}
+use Rattle.kt_node.specs.NodeMessages.{receiving, arriving, holding, taking_held}
+use Rattle.kt_node.specs.NodeSteps.{node_after, taking}
+use Rattle.kt_node.specs.Erasing.{erased_parcel, erased_parcels}
 use Rattle.kt_node.specs.declared.effects.Effects.{Effects}
 use Rattle.kt_node.specs.declared.effects.Parcels.TheVariants as puts
 use Rattle.kt_node.specs.Managers.{ManagerState, ShowsNode, IsSameManager, no_name, process_of}

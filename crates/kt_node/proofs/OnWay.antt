@@ -8,8 +8,8 @@ use Rattle.std.proofs.lemmas.Bool.{cases_eq}
 use Rattle.std.proofs.lemmas.List.{append-nil, map-append, take-append-drop, take_more}
 use Rattle.kt_protocol.proofs.Updates.{is_same, is_other}
 use Rattle.kt_spacetime.specs.declared.named_rows.NamedEvent.{NamedEvent}
-use Rattle.kt_net.specs.Clocks.{Envelope, envelope, clocked_row}
-use Rattle.kt_net.specs.declared.parcels.NodeParcel.{NodeParcel}
+use Rattle.kt_node.specs.Clocks.{Envelope, envelope, clocked_row}
+use Rattle.kt_node.specs.declared.parcels.NodeParcel.{NodeParcel}
 use Rattle.kt_node.specs.declared.cluster.OnWay.{OnWay}
 use Rattle.kt_node.specs.Clusters.{link, IsFront}
 use Rattle.kt_node.specs.Effects.{rows_told}

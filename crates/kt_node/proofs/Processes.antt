@@ -7,8 +7,8 @@ use Rattle.kt_process.specs.declared.side.Side.TheVariants as side
 use Rattle.kt_process.specs.Shown.{IsSeenAs, inst_shown, closed_as}
 use Rattle.kt_machine.specs.InOnePiece.{process_after_checkpoint, process_after_rollback}
 use Rattle.kt_spacetime.specs.declared.names.InstName.{InstName}
-use Rattle.kt_net.specs.Nodes.{NodeState}
-use Rattle.kt_net.specs.NodeClosing.{after_checkpoint, after_rollback}
+use Rattle.kt_node.specs.Nodes.{NodeState}
+use Rattle.kt_node.specs.NodeClosing.{after_checkpoint, after_rollback}
 use Rattle.kt_node.specs.Managers.{ManagerState, ShowsNode, number_in, process_of, after_closing}
 
 -- the state of the same manager

@@ -14,7 +14,7 @@ use Rattle.kt_tables.specs.Calls.{Call, sent, received, on_tentative, on_commit,
 use Rattle.kt_tables.specs.Labels.{greatest}
 use Rattle.kt_tables.proofs.CallParts.{receiveds-append}
 use Rattle.kt_tables.proofs.LabelLists.{greatest-append}
-use Rattle.kt_net.specs.NodeHistories.{Histories, no_history, histories_after, histories, sent_labels, call_of_row, call_of_act}
+use Rattle.kt_node.specs.NodeHistories.{Histories, no_history, histories_after, histories, sent_labels, call_of_row, call_of_act}
 use Rattle.kt_node.specs.declared.reach.Reach.{Reach}
 use Rattle.kt_node.specs.declared.reach.Reaches.{Reaches}
 use Rattle.kt_node.specs.Effects.{rows_told}

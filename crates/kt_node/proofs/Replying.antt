@@ -12,12 +12,12 @@ use Rattle.kt_process.specs.Shown.{IsSeenAs, part_shown, counted_as}
 use Rattle.kt_machine.specs.Seen.{SeenPart, SeenProcess}
 use Rattle.kt_machine.specs.SeenReplies.{part_after_reply}
 use Rattle.kt_spacetime.specs.declared.names.InstName.{InstName}
-use Rattle.kt_net.specs.declared.parcels.NodeParcel.TheVariants as put
-use Rattle.kt_net.specs.Nodes.{NodeState, nothing}
-use Rattle.kt_net.specs.NodeClosing.{closing, settling}
+use Rattle.kt_node.specs.declared.parcels.NodeParcel.TheVariants as put
+use Rattle.kt_node.specs.Nodes.{NodeState, nothing}
+use Rattle.kt_node.specs.NodeClosing.{closing, settling}
 use Rattle.kt_node.specs.declared.effects.Effects.{Effects}
 use Rattle.kt_node.specs.Effects.{IsDone}
-use Rattle.kt_net.specs.NodeSteps.{is_in, taking}
+use Rattle.kt_node.specs.NodeSteps.{is_in, taking}
 use Rattle.kt_node.specs.Managers.{ManagerState, ShowsNode, process_of}
 use Rattle.kt_node.specs.Turns.{counted_in, gone_on}
 

@@ -13,9 +13,9 @@ use Rattle.kt_process.specs.Shown.{goes_on}
 use Rattle.kt_spacetime.specs.declared.names.InstName.{InstName}
 use Rattle.kt_spacetime.specs.declared.named_rows.NamedEvent.{NamedEvent}
 use Rattle.kt_spacetime.specs.declared.named_rows.NamedEvent.TheVariants.{Decided, Closed}
-use Rattle.kt_net.specs.declared.parcels.NodeParcel.TheVariants as put
-use Rattle.kt_net.specs.Nodes.{NodeState, Doing, with_one}
-use Rattle.kt_net.specs.NodeClosing.{closing, ending, settling}
+use Rattle.kt_node.specs.declared.parcels.NodeParcel.TheVariants as put
+use Rattle.kt_node.specs.Nodes.{NodeState, Doing, with_one}
+use Rattle.kt_node.specs.NodeClosing.{closing, ending, settling}
 use Rattle.kt_system.specs.ShownActs.{act_shown, acts_shown, acts_joining}
 use Rattle.kt_node.specs.declared.effects.Effects.{Effects}
 use Rattle.kt_node.specs.declared.effects.Parcels.TheVariants as puts

@@ -8,13 +8,13 @@ use Rattle.kt_protocol.specs.States as protocol
 use Rattle.kt_machine.specs.Acts.{stepper}
 use Rattle.kt_spacetime.specs.declared.event.Event.{Event}
 use Rattle.kt_tables.specs.Calls.{Speaks}
-use Rattle.kt_net.specs.Nodes.{NodeState, Input, is_in_rollback}
-use Rattle.kt_net.specs.Nodes as input
-use Rattle.kt_net.specs.NodeSteps.{node_after}
-use Rattle.kt_net.specs.Nets.{opening_net, has_some}
-use Rattle.kt_net.specs.Clocks.{Envelope, ClockedNet, envelope, source_of, front_input, input_at, clock_after, left_after, clocked_run, opening_clocked}
-use Rattle.kt_net.specs.Erasing.{rows_from}
-use Rattle.kt_net.specs.declared.rows.ClockedRow.{ClockedRow}
+use Rattle.kt_node.specs.Nodes.{NodeState, Input, is_in_rollback}
+use Rattle.kt_node.specs.Nodes as input
+use Rattle.kt_node.specs.NodeSteps.{node_after}
+use Rattle.kt_node.specs.Nets.{opening_net, has_some}
+use Rattle.kt_node.specs.Clocks.{Envelope, ClockedNet, envelope, source_of, front_input, input_at, clock_after, left_after, clocked_run, opening_clocked}
+use Rattle.kt_node.specs.Erasing.{rows_from}
+use Rattle.kt_spacetime.specs.declared.named_rows.ClockedRow.{ClockedRow}
 use Rattle.kt_node.specs.declared.cluster.ClusterFault.{ClusterFault}
 use Rattle.kt_node.specs.declared.cluster.ClusterFault.TheVariants as fault
 use Rattle.kt_node.specs.declared.cluster.ClusterStep.{ClusterStep}

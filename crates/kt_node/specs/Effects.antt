@@ -4,11 +4,11 @@ use Rattle.kt_base.specs.Sets.{has}
 use Rattle.kt_base.specs.declared.words.Kind.{Kind}
 use Rattle.kt_spacetime.specs.declared.names.InstName.{InstName}
 use Rattle.kt_spacetime.specs.declared.named_rows.NamedEvent.{NamedEvent}
-use Rattle.kt_net.specs.declared.parcels.NodeParcel.{NodeParcel}
-use Rattle.kt_net.specs.declared.parcels.NodeParcel.TheVariants.{Ask, Decide}
+use Rattle.kt_node.specs.declared.parcels.NodeParcel.{NodeParcel}
+use Rattle.kt_node.specs.declared.parcels.NodeParcel.TheVariants.{Ask, Decide}
 use Rattle.kt_tables.specs.Calls.{Call}
-use Rattle.kt_net.specs.Nodes.{Doing}
-use Rattle.kt_net.specs.NodeHistories.{calls_told}
+use Rattle.kt_node.specs.Nodes.{Doing}
+use Rattle.kt_node.specs.NodeHistories.{calls_told}
 use Rattle.kt_system.specs.ShownActs.{acts_shown}
 use Rattle.kt_node.specs.declared.effects.Effects.{Effects}
 use Rattle.kt_node.specs.declared.effects.Parcels.{Parcels}

@@ -1,9 +1,9 @@
 -- When a manager does not take a step.
 use Rattle.std.specs.Prelude.{◌≡◌, ℕ, ◌==◌, ◌&&◌, ◌-◌, ◌^◌, not, nat_lt, nat_le, if◌then◌else◌, Option, Some, None, is_some, Result, Ok, Err, List, [], ◌∷◌}
-use Rattle.kt_net.specs.declared.parcels.NodeParcel.{NodeParcel}
-use Rattle.kt_net.specs.declared.parcels.NodeParcel.TheVariants.{App, Ask, Reply, Decide}
-use Rattle.kt_net.specs.Nodes.{NodeState, Input, Send, Begin, Fail, Held, Comes, is_in_rollback}
-use Rattle.kt_net.specs.Nets.{has_some}
+use Rattle.kt_node.specs.declared.parcels.NodeParcel.{NodeParcel}
+use Rattle.kt_node.specs.declared.parcels.NodeParcel.TheVariants.{App, Ask, Reply, Decide}
+use Rattle.kt_node.specs.Nodes.{NodeState, Input, Send, Begin, Fail, Held, Comes, is_in_rollback}
+use Rattle.kt_node.specs.Nets.{has_some}
 use Rattle.kt_node.specs.declared.faults.ManagerFault.{ManagerFault}
 use Rattle.kt_node.specs.declared.faults.ManagerFault.TheVariants as fault
 use Rattle.kt_node.specs.declared.effects.Effects.{Effects}

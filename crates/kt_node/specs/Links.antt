@@ -1,8 +1,8 @@
 -- A manager whose parcels have numbers and whose steps have clocks, and which knows how far its messages go.
 use Rattle.std.specs.Prelude.{◌≡◌, ◌+◌, ◌-◌, ◌^◌, ◌<◌, ◌≤◌, ℕ, max, Option, None, Result, Ok, Err, List, length, slice_index}
 use Rattle.kt_meaning.specs.Past.{at_one}
-use Rattle.kt_net.specs.Nodes.{NodeState, Input}
-use Rattle.kt_net.specs.NodeSteps.{node_after}
+use Rattle.kt_node.specs.Nodes.{NodeState, Input}
+use Rattle.kt_node.specs.NodeSteps.{node_after}
 use Rattle.kt_node.specs.declared.node.Output.{Output}
 use Rattle.kt_node.specs.declared.node.Taken.{Taken}
 use Rattle.kt_node.specs.declared.node.Taken.TheVariants.{Step, Again}

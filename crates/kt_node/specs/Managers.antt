@@ -6,10 +6,10 @@ use Rattle.kt_process.specs.ProcessStates.{ProcessState}
 use Rattle.kt_process.specs.Shown.{IsSeenAs}
 use Rattle.kt_spacetime.specs.declared.names.InstName.{InstName}
 use Rattle.kt_meaning.specs.Names.{name_of}
-use Rattle.kt_net.specs.Nodes.{NodeLists, NodeState}
-use Rattle.kt_net.specs.NodeSteps.{is_one}
-use Rattle.kt_net.specs.NodeClosing.{after_checkpoint, after_rollback}
-use Rattle.kt_net.specs.Erasing.{erased_parcels}
+use Rattle.kt_node.specs.Nodes.{NodeLists, NodeState}
+use Rattle.kt_node.specs.NodeSteps.{is_one}
+use Rattle.kt_node.specs.NodeClosing.{after_checkpoint, after_rollback}
+use Rattle.kt_node.specs.Erasing.{erased_parcels}
 
 -- how many processes there are and which of them it is; its process, the name of the open instance that this is in, and how
 -- many it began; and what it holds and keeps, in the lists to itself

@@ -2,7 +2,7 @@
 use Rattle.std.specs.Prelude.{◌≡◌, ◌<◌, ℕ, List, slice_index}
 use Rattle.kt_tables.specs.Calls.{Call, receiveds}
 use Rattle.kt_tables.specs.Labels.{greatest}
-use Rattle.kt_net.specs.NodeHistories.{histories, sent_labels}
+use Rattle.kt_node.specs.NodeHistories.{histories, sent_labels}
 use Rattle.kt_node.specs.declared.reach.Reach.{Reach}
 use Rattle.kt_node.specs.declared.reach.Reaches.{Reaches}
 

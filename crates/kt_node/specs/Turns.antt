@@ -16,11 +16,11 @@ use Rattle.kt_spacetime.specs.declared.named_rows.NamedCause.{NamedCause}
 use Rattle.kt_spacetime.specs.declared.named_rows.NamedCause.TheVariants.{Busy, Down, NoSave}
 use Rattle.kt_spacetime.specs.declared.named_rows.NamedEvent.{NamedEvent}
 use Rattle.kt_spacetime.specs.declared.named_rows.NamedEvent.TheVariants.{Took, Ready, Unwilling, Decided}
-use Rattle.kt_net.specs.declared.parcels.NodeParcel.TheVariants as put
+use Rattle.kt_node.specs.declared.parcels.NodeParcel.TheVariants as put
 use Rattle.kt_machine.specs.SeenReplies.{part_after_reply}
-use Rattle.kt_net.specs.Nodes.{NodeState, Doing, nothing, putting, with_one}
-use Rattle.kt_net.specs.NodeClosing.{closing}
-use Rattle.kt_net.specs.NodeSteps.{is_in}
+use Rattle.kt_node.specs.Nodes.{NodeState, Doing, nothing, putting, with_one}
+use Rattle.kt_node.specs.NodeClosing.{closing}
+use Rattle.kt_node.specs.NodeSteps.{is_in}
 use Rattle.kt_system.specs.ShownActs.{acts_joining}
 use Rattle.kt_node.specs.Managers.{ManagerState, HasBack, process_of, number_for}
 

@@ -6,17 +6,19 @@ ghost use Rattle.kt_meaning.specs.Names.{numbered};
 ghost use Rattle.kt_meaning.specs.Promised.{IsPromised};
 ghost use Rattle.kt_spacetime.specs.declared.event.Event.{Event};
 ghost use Rattle.kt_machine.specs.Acts.{stepper};
-ghost use Rattle.kt_net.specs.Clocks.{clocked_acts, clocked_row, rows_of, AreByClock};
-ghost use Rattle.kt_net.specs.Erasing.{rows_from};
-ghost use Rattle.kt_net.specs.declared.rows.ClockedRow.{ClockedRow as clocked_rows};
+ghost use Rattle.kt_node.specs.Clocks.{clocked_acts, clocked_row, AreByClock};
+ghost use Rattle.kt_node.specs.Erasing.{rows_from};
+ghost use Rattle.kt_spacetime.specs.declared.named_rows.ClockedRow.{ClockedRow as clocked_rows};
+ghost use Rattle.kt_spacetime.specs.ClockedRows.{rows_of};
 ghost use Rattle.kt_system.specs.ShownActs.{acts_shown};
 ghost use Rattle.kt_node.specs.Effects.{rows_told};
 ghost use Rattle.kt_node.specs.Clusters.{step_of, net_after, IsRun, AreFresh, ArePromised, coming_to, IsRefusedIn};
 ghost use Rattle.kt_node.specs.declared.cluster.ClusterFault.TheVariants as fault;
 
 use crate::node::{Node, NodeFault, Output};
+use crate::parcels::NodeParcel;
 use kt_base::{Kind, Label, Memory, ProcNo};
-use kt_net::{ClockedRow, NodeParcel};
+use kt_spacetime::ClockedRow;
 use std::alloc::Global;
 use std::marker::Model;
 use thiserror::Error;
@@ -170,9 +172,9 @@ impl Cluster {
             numbered (rows_from self.now.first (map (λ r. r.row) rows)) ≡ Some log →
             IsPromised log }
     {
-        kt_net::nets_are_runs();
-        kt_net::logs_of_nets();
-        kt_net::order_of_nets();
+        crate::laws::nets_are_runs();
+        crate::laws::logs_of_nets();
+        crate::laws::order_of_nets();
         self.rows.as_slice()
     }
 
@@ -204,7 +206,7 @@ impl Cluster {
         ensures err { (steps : List ProtocolStep) → IsRun self.old steps →
             OnErr result (IsRun self.new steps) }
     {
-        kt_net::nets_are_runs();
+        crate::laws::nets_are_runs();
         let at = next.at();
         if at.index() >= self.nodes.len() {
             return Err(ClusterFault::Unknown);

@@ -2,12 +2,12 @@
 
 ghost use Rattle.std.specs.Prelude.{◌≡◌, [], ◌∷◌};
 ghost use Rattle.std.specs.Option.{option_to_list};
-ghost use Rattle.kt_net.specs.Nodes.{NodeState, nothing};
+ghost use Rattle.kt_node.specs.Nodes.{NodeState, nothing};
 ghost use Rattle.kt_node.specs.Managers.{ManagerState, ShowsNode};
 ghost use Rattle.kt_node.specs.Effects.{label_for, put_to, IsDone};
 
+use crate::parcels::NodeParcel;
 use kt_base::{Kind, Label, ProcNo, ProcSet};
-use kt_net::NodeParcel;
 use kt_plan::Act;
 use kt_process::Asks;
 use kt_spacetime::{InstName, NamedEvent};

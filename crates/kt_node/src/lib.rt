@@ -1,4 +1,5 @@
-//! One process's manager as a value that any program can hold: by names of its own, with no world around it.
+//! One process's manager as a value that any program can hold: by names of its own, with no world around it; and the law
+//! that the rows of such nodes, linked by ordered channels, are the log of a run.
 //!
 //! A manager opens nothing and waits for nobody. What comes in is a command or a parcel; what goes out are rows, acts and
 //! parcels. How parcels travel, and where the rows and the object are kept, is the caller's. A node is a manager whose
@@ -10,7 +11,10 @@
 //! `manager/looks.rt`, `inputs.rt`, `specs/Looks`; what a step puts out `effects.rt`; when a call is refused `faults.rt`,
 //! `specs/Faults`; numbers and clocks `node.rt`, `specs/Links`; what its permanent checkpoint has `reach.rt`,
 //! `specs/Reaches`; nodes with links in one program `cluster.rt`, one step of theirs `cluster/turns.rt`, which net they are
-//! `specs/Clusters`; the law of nodes' parts `laws.rt`, `specs/NetParts`.
+//! `specs/Clusters`; laws `laws.rt`. What a node is by definition: what it has `specs/Nodes`; its rules
+//! `specs/NodeMessages`, `specs/NodeJoining`, `specs/NodeClosing`, `specs/NodeSteps`; what a step needs of its object
+//! `specs/NodeLooks`; what is in its permanent checkpoint `specs/NodeHistories`; nets `specs/Nets`, their parts
+//! `specs/NetParts`; parcels `parcels.rt`; rows with clocks `specs/Clocks`.
 #![tactic(auto)]
 
 mod cluster;
@@ -20,13 +24,20 @@ mod inputs;
 mod laws;
 mod manager;
 mod node;
+mod parcels;
 mod reach;
+mod worked;
 
 pub use cluster::{Cluster, ClusterFault, ClusterStep};
 pub use effects::{Effects, Parcels};
 pub use faults::ManagerFault;
 pub use inputs::Input;
-pub use laws::merges_of_nets;
-pub use manager::Manager;
+pub use laws::{
+    acts_of_nets, calls_of_nodes, logs_of_nets, looks_of_nodes, merges_of_nets, nets_are_runs,
+    order_of_nets, permanent_checkpoints,
+};
+pub use manager::{Manager, ManagerParts};
 pub use node::{Envelope, Node, NodeFault, Output, Taken};
-pub use reach::Reach;
+pub use parcels::NodeParcel;
+pub use reach::{Reach, Reaches};
+pub use worked::worked_nets;

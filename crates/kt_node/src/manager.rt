@@ -2,17 +2,18 @@
 
 ghost use Rattle.std.specs.Prelude.{◌≡◌, ◌<◌, ◌≤◌, ◌&&◌, not, ℕ, true, false, Some, None, IfOk, IfErr, IfSome, IfNone, OnOk};
 ghost use Rattle.kt_process.specs.ProcessStates.{is_ready};
-ghost use Rattle.kt_net.specs.Nodes.{NodeState, is_in_rollback};
-ghost use Rattle.kt_net.specs.NodeSteps.{is_in, is_one};
-ghost use Rattle.kt_net.specs.Nets.{opening_net, has_some};
-ghost use Rattle.kt_node.specs.Managers.{ShowsNode, HasBack, IsSameManager, number_for};
+ghost use Rattle.kt_node.specs.Nodes.{NodeState, is_in_rollback};
+ghost use Rattle.kt_node.specs.NodeSteps.{is_in, is_one};
+ghost use Rattle.kt_node.specs.Nets.{opening_net, has_some};
+ghost use Rattle.kt_node.specs.Managers.{IsSoundManager, ShowsNode, HasBack, IsSameManager, number_for};
+ghost use Rattle.kt_node.specs.ManagerParts.{state_of};
 ghost use Rattle.kt_node.specs.Faults.{stranger};
 
 use crate::faults::ManagerFault;
 use kt_base::{InstNo, Label, Memory, ProcNo};
 use kt_fifo::Channels;
 use kt_process::Process;
-use kt_spacetime::InstName;
+use kt_spacetime::{Count, InstName};
 use kt_system::make_room_back;
 use std::alloc::Global;
 use std::marker::Model;
@@ -32,6 +33,17 @@ pub struct Manager {
     begun: u64,
     held: Channels,
     kept: Channels,
+}
+
+/// What a manager is made of, as it has it.
+#[derive(Drop)]
+pub struct ManagerParts {
+    pub me: ProcNo,
+    pub process: Process,
+    pub inst: Option<InstName>,
+    pub begun: u64,
+    pub held: Channels,
+    pub kept: Channels,
 }
 
 impl Model for Manager {
@@ -60,6 +72,77 @@ impl Manager {
             held: Channels::new(alloc, processes)?,
             kept: Channels::new(alloc, processes)?,
         })
+    }
+
+    /// A manager of these parts; None where they do not belong together.
+    pub fn of(parts: ManagerParts) -> Option<Manager>
+        ensures some { IfSome result (λ m. m ≡ state_of parts) }
+        ensures none { IfNone result (IsSoundManager (state_of parts) → ⊥) }
+    {
+        let size = parts.process.tables().processes();
+        let suits = parts.me.index() < size
+            && parts.begun <= Count::MAX
+            && parts.held.processes() == size
+            && parts.kept.processes() == size;
+        if !suits {
+            return None;
+        }
+        Some(Manager {
+            size,
+            me: parts.me,
+            process: parts.process,
+            inst: parts.inst,
+            begun: parts.begun,
+            held: parts.held,
+            kept: parts.kept,
+        })
+    }
+
+    /// How many processes there are, at most 64.
+    pub fn size(&self) -> usize
+        ensures size { result ≡ self.now.size }
+        ensures few { result ≤ 64 }
+    {
+        self.size
+    }
+
+    /// Which process it is of.
+    pub fn me(&self) -> ProcNo
+        ensures me { result ≡ self.now.me }
+        ensures within { result < self.now.size }
+    {
+        self.me
+    }
+
+    /// Its process.
+    pub fn process(&self) -> &Process
+        ensures process { result.now ≡ self.now.process }
+        ensures sound { IsSoundManager self.now }
+    {
+        &self.process
+    }
+
+    /// How many instances it began.
+    pub fn begun_count(&self) -> u64
+        ensures { result ≡ self.now.begun }
+    {
+        self.begun
+    }
+
+    /// What it holds while it is in a rollback, in the lists to itself.
+    pub fn held(&self) -> &Channels
+        ensures held { result.now ≡ self.now.held }
+        ensures size { result.now.processes ≡ self.now.size }
+    {
+        &self.held
+    }
+
+    /// What it received past its permanent checkpoint, in the lists to itself.
+    pub fn kept(&self) -> &Channels
+        ensures kept { result.now ≡ self.now.kept }
+        ensures size { result.now.processes ≡ self.now.size }
+    {
+        &self.kept
     }
 
     /// The open instance that it is in.

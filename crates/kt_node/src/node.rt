@@ -1,29 +1,29 @@
 //! A node: a manager whose parcels have numbers, by sender and receiver, and whose steps have clocks.
 
-ghost use Rattle.std.specs.Prelude.{◌≡◌, ◌<◌, ◌≤◌, ◌+◌, ◌-◌, ◌^◌, ◌++◌, ℕ, List, max, length, slice_index, true, Some, IfOk, IfErr, IfSome, OnOk, OnErr, IsErrOf};
+ghost use Rattle.std.specs.Prelude.{◌≡◌, ◌<◌, ◌≤◌, ◌+◌, ◌-◌, ◌^◌, ◌++◌, ℕ, List, max, length, slice_index, true, Some, IfOk, IfErr, IfSome, IfNone, IsTrue, ◌↔◌, OnOk, OnErr, IsErrOf};
 ghost use Rattle.std.specs.Option.{option_to_list, option_map};
 ghost use Rattle.kt_meaning.specs.Past.{at_one, is_rollback_kind};
 ghost use Rattle.kt_tables.specs.Calls.{Call, receiveds, Speaks};
 ghost use Rattle.kt_tables.specs.Labels.{greatest};
-ghost use Rattle.kt_net.specs.Nodes.{NodeState, Send, Begin, Fail, Held, Comes};
-ghost use Rattle.kt_net.specs.NodeSteps.{is_step, node_after};
-ghost use Rattle.kt_net.specs.NodeHistories.{histories, sent_labels};
-ghost use Rattle.kt_net.specs.Nets.{opening_net};
+ghost use Rattle.kt_node.specs.Nodes.{NodeState, Send, Begin, Fail, Held, Comes};
+ghost use Rattle.kt_node.specs.NodeSteps.{is_step, node_after};
+ghost use Rattle.kt_node.specs.NodeHistories.{histories, sent_labels};
+ghost use Rattle.kt_node.specs.Nets.{opening_net};
 ghost use Rattle.kt_node.specs.Managers.{ShowsNode};
 ghost use Rattle.kt_node.specs.Effects.{put_to, calls_of};
 ghost use Rattle.kt_node.specs.Faults.{fault_at};
 ghost use Rattle.kt_node.specs.Looks.{is_next, node_look};
 ghost use Rattle.kt_node.specs.Reaches.{HasReaches};
-ghost use Rattle.kt_node.specs.Links.{ShowsLinks, IsStep, TakesNext, IsUntaken, IsSameNode, IsNodeRefusedAs, IsParcelRefusedAs};
+ghost use Rattle.kt_node.specs.Links.{AreCounted, ShowsLinks, IsStep, TakesNext, IsUntaken, IsSameNode, IsNodeRefusedAs, IsParcelRefusedAs};
 ghost use Rattle.kt_node.specs.declared.node.NodeFault.TheVariants as fault;
 
 use crate::effects::{Effects, Parcels};
 use crate::faults::ManagerFault;
 use crate::inputs::Input;
 use crate::manager::Manager;
+use crate::parcels::NodeParcel;
 use crate::reach::{Reach, Reaches};
 use kt_base::{Kind, Label, Memory, ProcNo};
-use kt_net::NodeParcel;
 use kt_plan::Look;
 use std::alloc::Global;
 use std::marker::Model;
@@ -134,6 +134,65 @@ impl Node {
             taken: [0; 64],
             reaches: Reaches::none(),
         })
+    }
+
+    /// A node of these parts; None where a count is not that of a step of its own.
+    pub fn of(
+        manager: Manager,
+        clock: u64,
+        sent: [u64; 64],
+        taken: [u64; 64],
+        reaches: Reaches,
+    ) -> Option<Node>
+        ensures some { IfSome result (λ n.
+            n ≡ record { manager = manager; clock = clock; sent = sent; taken = taken; reaches = reaches }) }
+        ensures none { IfNone result (AreCounted (record {
+          manager = manager;
+          clock = clock;
+          sent = sent;
+          taken = taken;
+          reaches = reaches;
+        }) → ⊥) }
+    {
+        if clock > MOST || !are_at_most(&sent, clock) || !are_at_most(&taken, clock) {
+            return None;
+        }
+        Some(Node {
+            manager,
+            clock,
+            sent,
+            taken,
+            reaches,
+        })
+    }
+
+    /// The clock of its last step, 0 for none.
+    pub fn clock(&self) -> u64
+        ensures clock { result ≡ self.now.clock }
+        ensures counted { AreCounted self.now }
+    {
+        self.clock
+    }
+
+    /// How many parcels it put, by receiver.
+    pub fn sent(&self) -> &[u64; 64]
+        ensures { result.now ≡ self.now.sent }
+    {
+        &self.sent
+    }
+
+    /// How many parcels it took, by sender.
+    pub fn taken(&self) -> &[u64; 64]
+        ensures { result.now ≡ self.now.taken }
+    {
+        &self.taken
+    }
+
+    /// How far the messages go of its live history, and of those that its last checkpoints have.
+    pub fn reaches(&self) -> &Reaches
+        ensures { result.now ≡ self.now.reaches }
+    {
+        &self.reaches
     }
 
     /// Its manager, to be read.
@@ -337,6 +396,13 @@ impl Node {
         self.note(from, next);
         Ok(Taken::Step(output))
     }
+}
+
+/// Whether some counts are at most this number.
+fn are_at_most(counts: &[u64; 64], most: u64) -> bool
+    ensures { IsTrue result ↔ ((q : ℕ) → slice_index counts.now q ≤ most) }
+{
+    counts.iter().all(|count| *count <= most)
 }
 
 /// These counts, with one more for each process for which there is a parcel.

@@ -4,7 +4,7 @@ ghost use Rattle.std.specs.Prelude.{◌≡◌, ◌∷◌, ◌++◌, [], ℕ, Lis
 ghost use Rattle.std.specs.List.{flat_map};
 ghost use Rattle.kt_tables.specs.Calls.{Call, sent, received};
 ghost use Rattle.kt_system.specs.ShownActs.{act_shown, acts_shown};
-ghost use Rattle.kt_net.specs.NodeHistories.{call_of_row, call_of_act};
+ghost use Rattle.kt_node.specs.NodeHistories.{call_of_row, call_of_act};
 ghost use Rattle.kt_node.specs.Reaches.{IsReach, HasReaches};
 ghost use Rattle.kt_node.specs.Effects.{rows_told, calls_of};
 
@@ -24,9 +24,9 @@ pub struct Reach {
 /// How far the messages of a live history go, those that its last tentative checkpoint has, and its permanent one.
 #[derive(Clone, Copy)]
 pub struct Reaches {
-    live: Reach,
-    tentative: Reach,
-    permanent: Reach,
+    pub live: Reach,
+    pub tentative: Reach,
+    pub permanent: Reach,
 }
 
 impl Reach {

@@ -6,7 +6,7 @@ use Rattle.std.specs.Option.{option_map}
 use Rattle.kt_spacetime.specs.Events.{process_of}
 use Rattle.kt_text.specs.Writing.{joined}
 use Rattle.kt_log_text.specs.Spelling.{spelling}
-use Rattle.kt_picture.specs.declared.window.Breach.{Breach}
+use Rattle.kt_picture.specs.declared.window.BrokenRow.{BrokenRow}
 use Rattle.kt_picture.specs.declared.layers.Layer.{Layer}
 use Rattle.kt_picture.specs.declared.layers.Layer.TheVariants as layer
 use Rattle.kt_picture.specs.declared.layers.Thread.{Thread}
@@ -23,7 +23,7 @@ use Rattle.kt_picture.specs.declared.window.Shown.{Shown}
 use Rattle.kt_picture.specs.declared.window.Stretch.{Stretch}
 use Rattle.kt_picture.specs.declared.words.Saying.TheVariants as say
 use Rattle.kt_picture.specs.declared.words.Word.{Word}
-use Rattle.kt_picture.specs.Breach.{breach_shown}
+use Rattle.kt_picture.specs.BrokenRow.{breach_shown}
 use Rattle.kt_picture.specs.Escaping.{escaped}
 use Rattle.kt_picture.specs.Lanes.{lane_of}
 use Rattle.kt_picture.specs.Legend.{legend_from, signs_of}
@@ -128,7 +128,7 @@ cut_text view c = if c.is_new then cut_line view c else []
 abbrev pub wrong_text : View → Shown → List ℕ
 wrong_text view s = codes "<g class='wrong'>" ++ (arrow_text view s ++ (figure_text view s ++ codes "</g>\n"))
 
-abbrev pub broken_text : View → Option Breach → List ℕ
+abbrev pub broken_text : View → Option BrokenRow → List ℕ
 broken_text view None = []
 broken_text view (Some b) = wrong_text view (breach_shown (view.before + view.columns) view.columns b)
 

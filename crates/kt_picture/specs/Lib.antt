@@ -1,6 +1,6 @@
 pub use Rattle.kt_spacetime.specs.Events
 pub mod Arrows
-pub mod Breach
+pub mod BrokenRow
 pub mod DiagramOf
 pub mod Escaping
 pub mod Evidence

@@ -1,7 +1,7 @@
 -- What marks are drawn by.
 use Rattle.std.specs.Prelude.{ℕ, List, Option}
 use Rattle.kt_spacetime.specs.declared.event.Event.{Event}
-use Rattle.kt_picture.specs.declared.window.Breach.{Breach}
+use Rattle.kt_picture.specs.declared.window.BrokenRow.{BrokenRow}
 use Rattle.kt_picture.specs.declared.window.Shown.{Shown}
 use Rattle.kt_picture.specs.declared.window.CutMark.{CutMark}
 use Rattle.kt_picture.specs.declared.window.Stretch.{Stretch}
@@ -18,7 +18,7 @@ pub record View : Type 0 where
   pub shown : List Shown
   pub cuts : List CutMark
   pub ends : List Stretch
-  pub breach : Option Breach
+  pub breach : Option BrokenRow
   pub link : ℕ → Option ℕ
   pub orphan : Option ℕ
   pub reason : Event → List ℕ

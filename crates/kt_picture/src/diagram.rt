@@ -9,7 +9,7 @@ ghost use Rattle.kt_meaning.specs.Legal.{first_broken};
 ghost use Rattle.kt_walk.specs.WalkOf.{WalkOf};
 ghost use Rattle.kt_walk.specs.WalkParts.{WalkParts};
 ghost use Rattle.kt_picture.specs.DiagramOf.{DiagramOf, HasRowsFor, SheetOf};
-ghost use Rattle.kt_picture.specs.Breach.{breach_rows};
+ghost use Rattle.kt_picture.specs.BrokenRow.{breach_rows};
 ghost use Rattle.kt_picture.specs.Lanes.{is_named};
 ghost use Rattle.kt_picture.specs.Picture.{picture_of};
 
@@ -17,7 +17,7 @@ use crate::entry::{Entry, follow, message_of, shown_rows, taken_by};
 use crate::layers::text_of;
 use crate::rows::{Evidence, Page, links_of};
 use crate::window::{
-    Breach, CutMark, Known, Lanes, Shown, Stretch, lane_ends, push_cut, push_item, with_named,
+    BrokenRow, CutMark, Known, Lanes, Shown, Stretch, lane_ends, push_cut, push_item, with_named,
 };
 use kt_base::{Memory, MsgNo, ProcSet};
 use kt_plan::Names;
@@ -151,7 +151,7 @@ impl Sheet {
         &'a self,
         alloc: Global,
         rows: &'a [Event],
-        breach: Option<Breach>,
+        breach: Option<BrokenRow>,
         evidence: &Evidence<'a>,
         names: &'a Names,
         caption: &[u8],
@@ -184,7 +184,7 @@ impl Sheet {
 }
 
 // The processes that rows name, with those of the row that breaks a rule.
-fn with_breach(named: ProcSet, breach: Option<Breach>) -> ProcSet
+fn with_breach(named: ProcSet, breach: Option<BrokenRow>) -> ProcSet
     ensures { (rows : List Event) → ((q : ℕ) → q < 64 → has named q ≡ is_named rows q)
         → (q : ℕ) → q < 64 → has result q ≡ is_named (rows ++ breach_rows breach) q }
 {

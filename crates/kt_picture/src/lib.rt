@@ -25,5 +25,5 @@ pub use laws::{
     unreceived_is_not_live, words_stand_apart,
 };
 pub use rows::Evidence;
-pub use window::Breach;
+pub use window::BrokenRow;
 pub use words::caption;

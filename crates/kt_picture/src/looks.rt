@@ -208,7 +208,7 @@ pub(crate) struct Place {
 pub(crate) const STYLE: &str = "<style>svg{font:12px system-ui,sans-serif}path,polyline{fill:none}
 text{paint-order:stroke;stroke-width:3px;stroke-linejoin:round}
 .num,.say,.bad,.top,.rule,.inst{font-size:10px}.top{text-anchor:middle}.name,.rule{text-anchor:end}
-.inst{font-weight:600}.lane,.m,.open{stroke-width:1.4}.down{stroke-dasharray:2 5}
+.name{font-family:monospace}.inst{font-weight:600}.lane,.m,.open{stroke-width:1.4}.down{stroke-dasharray:2 5}
 .in{stroke-width:10;stroke-opacity:.28}.f,.w{stroke-width:1.6}.x{stroke-width:2.4}
 .m{marker-end:url(#a)}.way{marker-end:url(#o)}.gone{stroke-dasharray:6 4}.back{stroke-width:.8}
 .gone,.back{marker-end:url(#g)}.link{stroke-width:2.6}.orphan{stroke-width:4}

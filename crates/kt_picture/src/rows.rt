@@ -8,7 +8,7 @@ ghost use Rattle.kt_picture.specs.Pages.{view_in};
 
 use crate::diagram::Sheet;
 use crate::looks::{Look, Outline, Path, Place, x_of, y_of};
-use crate::window::{Breach, Lanes, Shown};
+use crate::window::{BrokenRow, Lanes, Shown};
 use crate::words::{Saying, Word};
 use kt_base::{InstNo, Memory, MsgNo, ProcNo};
 use kt_plan::Names;
@@ -37,7 +37,7 @@ pub(crate) struct Page<'a> {
     /// The column where lanes end: behind the window.
     pub(crate) right: u32,
     /// The row that comes after the window and breaks a rule.
-    pub(crate) breach: Option<Breach>,
+    pub(crate) breach: Option<BrokenRow>,
     pub(crate) certificates: &'a [Certificate],
     pub(crate) orphan: Option<MsgNo>,
     /// The rows up to the window's end.

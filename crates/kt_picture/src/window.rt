@@ -7,7 +7,7 @@ ghost use Rattle.kt_spacetime.specs.declared.event.Event.{Event};
 ghost use Rattle.kt_spacetime.specs.Events.{process_of};
 ghost use Rattle.kt_meaning.specs.Past.{past};
 ghost use Rattle.kt_walk.specs.WalkOf.{WalkOf};
-ghost use Rattle.kt_picture.specs.Breach.{breach_shown};
+ghost use Rattle.kt_picture.specs.BrokenRow.{breach_shown};
 ghost use Rattle.kt_picture.specs.KnownAtRow.{KnownAtRow, cut_in, plain_at, taken_after, places_after, place_after, stretch_from};
 ghost use Rattle.kt_picture.specs.KnownOf.{KnownOf};
 ghost use Rattle.kt_picture.specs.Lanes.{names_process, lane_of};
@@ -127,12 +127,12 @@ pub(crate) struct CutMark {
 
 /// The row that comes after those of a legal log, and the least rule that it breaks.
 #[derive(Clone, Copy)]
-pub struct Breach {
+pub struct BrokenRow {
     pub event: Event,
     pub rule: Rule,
 }
 
-impl Breach {
+impl BrokenRow {
     /// The row as what it says, in a column of its own.
     pub(crate) fn shown(&self, number: u32, column: u32) -> Shown
         ensures { result ≡ breach_shown number column self.now }

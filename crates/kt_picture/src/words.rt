@@ -3,13 +3,13 @@
 ghost use Rattle.std.specs.Prelude.{◌≡◌, ◌++◌, IfOk, OnOk, string_bytes};
 ghost use Rattle.kt_log_text.specs.Spelling.{spelling};
 ghost use Rattle.kt_text.specs.Writing.{joined};
-ghost use Rattle.kt_picture.specs.Breach.{caption_of};
+ghost use Rattle.kt_picture.specs.BrokenRow.{caption_of};
 ghost use Rattle.kt_picture.specs.Evidence.{chain_for, chain_of, chain_word, ends_of_message};
 ghost use Rattle.kt_picture.specs.Pages.{reason_in};
 ghost use Rattle.kt_picture.specs.Texts.{drawn, name_text, rule_name, say_class, say_shift};
 
 use crate::rows::Page;
-use crate::window::Breach;
+use crate::window::BrokenRow;
 use kt_base::{Cause, InstNo, Kind, Memory, MsgNo, ProcNo};
 use kt_log_text::push_fields;
 use kt_plan::Names;
@@ -211,7 +211,7 @@ pub(crate) fn push_word(text: &mut String, word: Option<Word>) -> Result<(), Mem
 }
 
 /// What is said below a picture of a log: that the log is legal, or that the row of this number breaks a rule.
-pub fn caption(alloc: Global, number: u32, breach: Option<Breach>) -> Result<Vec<u8>, Memory>
+pub fn caption(alloc: Global, number: u32, breach: Option<BrokenRow>) -> Result<Vec<u8>, Memory>
     ensures exact { IfOk result (λ t. t.items ≡ caption_of number breach) }
 {
     let text = match breach {

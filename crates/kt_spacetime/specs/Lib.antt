@@ -3,6 +3,7 @@ pub mod Events
 pub mod Logs
 pub mod Counts
 pub mod NamedRows
+pub mod ClockedRows
 pub mod Rules
 pub mod Unfit
 pub mod Verdicts

@@ -19,7 +19,7 @@ pub use certificate::{Certificate, Chain, Members};
 pub use deeds::Deed;
 pub use event::Event;
 pub use log::SpaceTime;
-pub use named_rows::{NamedCause, NamedEvent, NamedRow};
+pub use named_rows::{ClockedRow, NamedCause, NamedEvent, NamedRow};
 pub use names::{Count, InstName};
 pub use rules::Rule;
 pub use unfit::{CertFault, Unfit};

@@ -52,3 +52,10 @@ pub struct NamedRow {
     pub p: ProcNo,
     pub event: NamedEvent,
 }
+
+/// A row by names, with the clock of the step that told it.
+#[derive(Clone, Copy)]
+pub struct ClockedRow {
+    pub clock: u64,
+    pub row: NamedRow,
+}

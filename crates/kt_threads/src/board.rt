@@ -8,7 +8,7 @@ ghost use Rattle.kt_threads.specs.Turns.{HasStep, IsOver};
 
 use crate::book::Naming;
 use crate::faults::LiveFault;
-use crate::minutes::{MOST_IN_ONE_HOLD, Minutes, Notes, Noting};
+use crate::minutes::{MOST_IN_ONE_HOLD, Minutes, Noting, StepNotes};
 use crate::sides::{Receipt, Recorder};
 use crate::state::{Acted, State};
 use kt_base::{Memory, ProcNo};
@@ -56,7 +56,7 @@ impl<J: Naming> Board<J> {
     ) -> Result<Board<J>, Memory>
         requires { asked ≡ [] }
     {
-        let notes = Notes::of(alloc, plan.size(), noting, asked)?;
+        let notes = StepNotes::of(alloc, plan.size(), noting, asked)?;
         let news = news_of(alloc, plan.size())?;
         let state = State::new(alloc, plan.copy(alloc)?)?;
         Ok(Board {

@@ -36,13 +36,13 @@ pub(crate) enum Noting {
 
 /// Room for what is noted of steps.
 #[derive(Drop)]
-pub(crate) struct Notes<J: Naming> {
+pub(crate) struct StepNotes<J: Naming> {
     asked: Recorder<J>,
     told: ToldLists,
     steps: StepList,
 }
 
-impl<J: Naming> Notes<J> {
+impl<J: Naming> StepNotes<J> {
     /// For so many processes, of whose steps there was none.
     #[tactic(auto, using(crate::proofs::Noting::listed_first))]
     pub(crate) fn of(
@@ -50,12 +50,12 @@ impl<J: Naming> Notes<J> {
         processes: usize,
         noting: Noting,
         asked: Recorder<J>,
-    ) -> Result<Notes<J>, Memory>
+    ) -> Result<StepNotes<J>, Memory>
         requires { asked ≡ [] }
         ensures { IfOk result (λ notes. AreNoted [] notes.asked notes.told notes.steps) }
     {
         let told = ToldLists::of(alloc, if noting == Noting::Told { processes } else { 0 })?;
-        Ok(Notes {
+        Ok(StepNotes {
             asked,
             told,
             steps: StepList::of(alloc, noting == Noting::Kept(Keep::Steps)),
@@ -89,12 +89,12 @@ impl<J: Naming> Model for Minutes<J> {
 
 impl<J: Naming> Minutes<J> {
     /// Of a state to which no step led, with lists in which nothing is noted.
-    pub(crate) fn new(state: State, notes: Notes<J>) -> Minutes<J>
+    pub(crate) fn new(state: State, notes: StepNotes<J>) -> Minutes<J>
         requires steps { state.steps ≡ [] }
         requires noted { AreNoted [] notes.asked notes.told notes.steps }
         ensures { result ≡ state }
     {
-        let Notes { asked, told, steps } = notes;
+        let StepNotes { asked, told, steps } = notes;
         Minutes {
             state,
             asked,

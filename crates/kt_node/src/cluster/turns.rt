@@ -2,8 +2,8 @@
 
 ghost use Rattle.std.specs.Prelude.{◌≡◌, ◌≤◌, ◌<◌, ◌+◌, ◌++◌, ◌==◌, ◌&&◌, if◌then◌else◌, ℕ, [], List, map, length, vec_len, vec_capacity, slice_index_or, slice_set, IfOk, IfSome, IfNone, OnOk, OnErr};
 ghost use Rattle.kt_protocol.specs.States.{Take};
-ghost use Rattle.kt_net.specs.Nodes.{NodeState};
-ghost use Rattle.kt_net.specs.Clocks.{envelope, clocked_row, source_of};
+ghost use Rattle.kt_node.specs.Nodes.{NodeState};
+ghost use Rattle.kt_node.specs.Clocks.{envelope, clocked_row, source_of};
 ghost use Rattle.kt_machine.specs.Acts.{stepper};
 ghost use Rattle.kt_node.specs.Managers.{ShowsNode};
 ghost use Rattle.kt_node.specs.Effects.{put_to, rows_told};
@@ -13,8 +13,7 @@ ghost use Rattle.kt_node.specs.Clusters.{link, step_of, IsFront, IsTurn, IsSpeak
 use super::{ClusterFault, ClusterStep, OnWay};
 use crate::node::{Envelope, Node, Output, Taken};
 use kt_base::{Memory, ProcNo};
-use kt_net::ClockedRow;
-use kt_spacetime::{NamedEvent, NamedRow};
+use kt_spacetime::{ClockedRow, NamedEvent, NamedRow};
 use std::alloc::Global;
 
 /// Room for what one step puts and tells.

@@ -2,17 +2,17 @@
 
 ghost use Rattle.std.specs.Prelude.{◌≡◌, ◌<◌, ◌&&◌, ℤ, Bool, true, is_none};
 ghost use Rattle.kt_process.specs.ProcessStates.{inst_of};
-ghost use Rattle.kt_net.specs.Nodes.{NodeState, Send, Begin, Held, Comes};
-ghost use Rattle.kt_net.specs.NodeLooks.{asks_to_save, would_save};
-ghost use Rattle.kt_net.specs.declared.parcels.NodeParcel.{NodeParcel as Taken};
+ghost use Rattle.kt_node.specs.Nodes.{NodeState, Send, Begin, Held, Comes};
+ghost use Rattle.kt_node.specs.NodeLooks.{asks_to_save, would_save};
+ghost use Rattle.kt_node.specs.declared.parcels.NodeParcel.{NodeParcel as Taken};
 ghost use Rattle.kt_node.specs.Managers.{ShowsNode};
 ghost use Rattle.kt_node.specs.Faults.{stranger, fault_at};
 ghost use Rattle.kt_node.specs.Looks.{input_of, look_of};
 
 use super::Manager;
 use crate::inputs::Input;
+use crate::parcels::NodeParcel;
 use kt_base::{Kind, ProcNo};
-use kt_net::NodeParcel;
 use kt_plan::Look;
 use kt_spacetime::Count;
 

@@ -4,12 +4,12 @@ ghost use Rattle.std.specs.Prelude.{◌≡◌, ◌<◌, ◌≤◌, ◌∷◌, tr
 ghost use Rattle.kt_fifo.specs.Channels.{spare_of};
 ghost use Rattle.kt_fifo.specs.declared.parcels.Parcel.TheVariants as parcel;
 ghost use Rattle.kt_tables.specs.Calls.{Speaks};
-ghost use Rattle.kt_net.specs.Nodes.{NodeState, Send, Fail, Held};
-ghost use Rattle.kt_net.specs.NodeMessages.{arriving, refusing};
-ghost use Rattle.kt_net.specs.NodeSteps.{is_step, node_after, taking};
-ghost use Rattle.kt_net.specs.declared.parcels.NodeParcel.TheVariants as sent;
+ghost use Rattle.kt_node.specs.Nodes.{NodeState, Send, Fail, Held};
+ghost use Rattle.kt_node.specs.NodeMessages.{arriving, refusing};
+ghost use Rattle.kt_node.specs.NodeSteps.{is_step, node_after, taking};
+ghost use Rattle.kt_node.specs.declared.parcels.NodeParcel.TheVariants as sent;
 ghost use Rattle.kt_node.specs.declared.faults.ManagerFault.TheVariants as fault;
-ghost use Rattle.kt_net.specs.Erasing.{erased_parcel};
+ghost use Rattle.kt_node.specs.Erasing.{erased_parcel};
 ghost use Rattle.kt_node.specs.Managers.{ManagerState, ShowsNode, IsSameManager, no_name};
 ghost use Rattle.kt_node.specs.Effects.{IsDone};
 ghost use Rattle.kt_node.specs.Faults.{fault_at, first_held, held_fault, IsRefusedAs};
@@ -17,9 +17,9 @@ ghost use Rattle.kt_node.specs.Faults.{fault_at, first_held, held_fault, IsRefus
 use super::Manager;
 use crate::effects::{Effects, NO_ACTS, Parcels};
 use crate::faults::ManagerFault;
+use crate::parcels::NodeParcel;
 use kt_base::{Label, Memory, MsgNo, ProcNo, Verb};
 use kt_fifo::Parcel;
-use kt_net::NodeParcel;
 use kt_plan::Act;
 use kt_spacetime::{Count, NamedCause, NamedEvent};
 

@@ -2,8 +2,8 @@
 
 ghost use Rattle.std.specs.Prelude.{◌≡◌, IfOk, OnErr};
 ghost use Rattle.kt_tables.specs.Calls.{Speaks};
-ghost use Rattle.kt_net.specs.Nodes.{NodeState, Comes};
-ghost use Rattle.kt_net.specs.NodeSteps.{node_after};
+ghost use Rattle.kt_node.specs.Nodes.{NodeState, Comes};
+ghost use Rattle.kt_node.specs.NodeSteps.{node_after};
 ghost use Rattle.kt_node.specs.Managers.{ShowsNode, IsSameManager};
 ghost use Rattle.kt_node.specs.Effects.{IsDone};
 ghost use Rattle.kt_node.specs.Faults.{fault_at, IsRefusedAs};
@@ -12,8 +12,8 @@ use super::Manager;
 use super::instances::Ask;
 use crate::effects::Effects;
 use crate::faults::ManagerFault;
+use crate::parcels::NodeParcel;
 use kt_base::ProcNo;
-use kt_net::NodeParcel;
 use std::alloc::Global;
 
 impl Manager {

@@ -2,7 +2,7 @@ use Rattle.std.proofs.Common.{◌<◌, ℕ, Option, Some, List, length, refl, su
 use Rattle.std.proofs.lemmas.Option.{slice_get_read, slice_get_within}
 use Rattle.std.proofs.lemmas.Result.{err_from_is_err_and}
 use Rattle.kt_meaning.specs.Names.{nothing_given, given_by}
-use Rattle.kt_merge.specs.declared.part_rows.PartRow.{PartRow}
+use Rattle.kt_spacetime.specs.declared.named_rows.ClockedRow.{ClockedRow}
 use Rattle.kt_merge.specs.Heads.{IsLeastHead, HasNoHead}
 use Rattle.kt_merge.proofs.MergingFacts.{HasNoNumber, merging_none, merging_more, none_left, writes_all, of_write_fault, stops_at_row, stops_in_writing, stops_at_part, stops_at_end}
 use Rattle.kt_merge.proofs.merging.merge_readers.Goals as goal
@@ -15,35 +15,35 @@ loop-part-init g c =
 pub index-requires : goal.index-requires
 index-requires g c =
     let m = c.loop-part.invariant in
-    let least = subst (λ (hs : List (Option PartRow)). IsLeastHead hs c.in-Some.part c.in-Some.row) c.as_slice.ensures.value c.in-Some.ensures.found in
+    let least = subst (λ (hs : List (Option ClockedRow)). IsLeastHead hs c.in-Some.part c.in-Some.row) c.as_slice.ensures.value c.in-Some.ensures.found in
     let in_heads = slice_get_within c.loop-part.heads.items c.in-Some.part (Some c.in-Some.row) least.is in
     omega (arith, in_heads, m.merged.many.0, m.merged.many.1)
 
 pub index_mut-requires : goal.index_mut-requires
 index_mut-requires g c =
     let m = c.loop-part.invariant in
-    let least = subst (λ (hs : List (Option PartRow)). IsLeastHead hs c.in-Some.part c.in-Some.row) c.as_slice.ensures.value c.in-Some.ensures.found in
+    let least = subst (λ (hs : List (Option ClockedRow)). IsLeastHead hs c.in-Some.part c.in-Some.row) c.as_slice.ensures.value c.in-Some.ensures.found in
     let in_heads = slice_get_within c.loop-part.heads.items c.in-Some.part (Some c.in-Some.row) least.is in
     omega (arith, in_heads, m.merged.many.0, m.merged.many.1)
 
 pub next_head-requires : goal.next_head-requires
 next_head-requires g c =
     let m = c.loop-part.invariant in
-    let least = subst (λ (hs : List (Option PartRow)). IsLeastHead hs c.in-Some.part c.in-Some.row) c.as_slice.ensures.value c.in-Some.ensures.found in
+    let least = subst (λ (hs : List (Option ClockedRow)). IsLeastHead hs c.in-Some.part c.in-Some.row) c.as_slice.ensures.value c.in-Some.ensures.found in
     let in_heads = slice_get_within c.loop-part.heads.items c.in-Some.part (Some c.in-Some.row) least.is in
     omega (arith, in_heads, m.merged.many.1, c.requires.few)
 
 pub index_mut-requires-in-Some : goal.index_mut-requires-in-Some
 index_mut-requires-in-Some g c =
     let m = c.loop-part.invariant in
-    let least = subst (λ (hs : List (Option PartRow)). IsLeastHead hs c.in-Some.part c.in-Some.row) c.as_slice.ensures.value c.in-Some.ensures.found in
+    let least = subst (λ (hs : List (Option ClockedRow)). IsLeastHead hs c.in-Some.part c.in-Some.row) c.as_slice.ensures.value c.in-Some.ensures.found in
     let in_heads = slice_get_within c.loop-part.heads.items c.in-Some.part (Some c.in-Some.row) least.is in
     omega (arith, in_heads)
 
 pub returns-in_err-event-clause-stopped : goal.returns-in_err-event-clause-stopped
 returns-in_err-event-clause-stopped g c =
     let m = c.loop-part.invariant in
-    let least = subst (λ (hs : List (Option PartRow)). IsLeastHead hs c.in-Some.part c.in-Some.row) c.as_slice.ensures.value c.in-Some.ensures.found in
+    let least = subst (λ (hs : List (Option ClockedRow)). IsLeastHead hs c.in-Some.part c.in-Some.row) c.as_slice.ensures.value c.in-Some.ensures.found in
     let in_heads = slice_get_within c.loop-part.heads.items c.in-Some.part (Some c.in-Some.row) least.is in
     let within : c.in-Some.part < length c.loop-part.parts.items = omega (arith, in_heads, m.merged.many.0, m.merged.many.1) in
     let there = slice_get_read c.loop-part.parts.items (length c.loop-part.parts.items) c.in-Some.part c.index.result.now refl within c.index.ensures in
@@ -57,7 +57,7 @@ returns-in_err-event-clause-stopped g c =
 pub returns-in_err-write_row-clause-stopped : goal.returns-in_err-write_row-clause-stopped
 returns-in_err-write_row-clause-stopped g c =
     let m = c.loop-part.invariant in
-    let least = subst (λ (hs : List (Option PartRow)). IsLeastHead hs c.in-Some.part c.in-Some.row) c.as_slice.ensures.value c.in-Some.ensures.found in
+    let least = subst (λ (hs : List (Option ClockedRow)). IsLeastHead hs c.in-Some.part c.in-Some.row) c.as_slice.ensures.value c.in-Some.ensures.found in
     let in_heads = slice_get_within c.loop-part.heads.items c.in-Some.part (Some c.in-Some.row) least.is in
     let p = err_from_is_err_and c.from_residual-in_err-write_row.result c.from_residual-in_err-write_row.ensures.1 in
     rw p.1
@@ -68,7 +68,7 @@ returns-in_err-write_row-clause-stopped g c =
 pub returns-in_err-heads-clause-stopped : goal.returns-in_err-heads-clause-stopped
 returns-in_err-heads-clause-stopped g c =
     let m = c.loop-part.invariant in
-    let least = subst (λ (hs : List (Option PartRow)). IsLeastHead hs c.in-Some.part c.in-Some.row) c.as_slice.ensures.value c.in-Some.ensures.found in
+    let least = subst (λ (hs : List (Option ClockedRow)). IsLeastHead hs c.in-Some.part c.in-Some.row) c.as_slice.ensures.value c.in-Some.ensures.found in
     let in_heads = slice_get_within c.loop-part.heads.items c.in-Some.part (Some c.in-Some.row) least.is in
     let within : c.in-Some.part < length c.loop-part.parts.items = omega (arith, in_heads, m.merged.many.0, m.merged.many.1) in
     let there = slice_get_read c.loop-part.parts.items (length c.loop-part.parts.items) c.in-Some.part c.index_mut.result.now refl within c.index_mut.ensures.value in
@@ -82,7 +82,7 @@ returns-in_err-heads-clause-stopped g c =
 pub loop-part-preserved : goal.loop-part-preserved
 loop-part-preserved g c =
     let m = c.loop-part.invariant in
-    let least = subst (λ (hs : List (Option PartRow)). IsLeastHead hs c.in-Some.part c.in-Some.row) c.as_slice.ensures.value c.in-Some.ensures.found in
+    let least = subst (λ (hs : List (Option ClockedRow)). IsLeastHead hs c.in-Some.part c.in-Some.row) c.as_slice.ensures.value c.in-Some.ensures.found in
     let in_heads = slice_get_within c.loop-part.heads.items c.in-Some.part (Some c.in-Some.row) least.is in
     let within : c.in-Some.part < length c.loop-part.parts.items = omega (arith, in_heads, m.merged.many.0, m.merged.many.1) in
     let there = slice_get_read c.loop-part.parts.items (length c.loop-part.parts.items) c.in-Some.part c.index_mut.result.now refl within c.index_mut.ensures.value in

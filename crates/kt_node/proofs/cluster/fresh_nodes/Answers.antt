@@ -2,7 +2,7 @@ use Rattle.std.proofs.Common.{◌∙◌, ℕ, ◌+◌, List, ap, sym, subst, len
 use Rattle.std.proofs.lemmas.List.{length_push}
 use Rattle.kt_node.specs.Clusters.{AreFresh, ShowsClocked}
 use Rattle.kt_node.specs.Links.{NodeLinks}
-use Rattle.kt_net.specs.Nets.{opening_net}
+use Rattle.kt_node.specs.Nets.{opening_net}
 use Rattle.kt_node.proofs.Clustering.{fresh_push}
 use Rattle.kt_node.proofs.cluster.fresh_nodes.Goals as goal
 

@@ -1,6 +1,6 @@
 use Rattle.std.proofs.Common.{◌∙◌, ◌+◌, ap}
 use Rattle.std.proofs.lemmas.Result.{IfOk-weaker}
-use Rattle.kt_picture.specs.Breach.{caption_of}
+use Rattle.kt_picture.specs.BrokenRow.{caption_of}
 use Rattle.kt_draw.proofs.drawing.Reading.caption.Goals as goal
 
 pub returns : goal.returns

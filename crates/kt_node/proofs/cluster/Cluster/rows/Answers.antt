@@ -1,7 +1,7 @@
 use Rattle.std.proofs.Common.{◌≡◌, ◌∙◌, Some, length, map, sym, ap, subst}
+use Rattle.kt_spacetime.specs.ClockedRows.{rows_of}
 use Rattle.kt_meaning.specs.Names.{numbered}
-use Rattle.kt_net.specs.Clocks.{rows_of}
-use Rattle.kt_net.specs.Erasing.{rows_from}
+use Rattle.kt_node.specs.Erasing.{rows_from}
 use Rattle.kt_node.specs.Clusters.{ClusterState, ArePromised}
 use Rattle.kt_node.proofs.Clustering.{promised_rows}
 use Rattle.kt_node.proofs.cluster.Cluster.rows.Goals as goal

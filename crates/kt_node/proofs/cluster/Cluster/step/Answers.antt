@@ -1,8 +1,8 @@
 use Rattle.std.proofs.Common.{◌≡◌, ◌∙◌, ◌<◌, ℕ, List, [], ◌∷◌, ◌++◌, length, map, refl, sym, ap, ap₂, subst, arith, rules}
 use Rattle.std.specs.Prelude.{◌==◌, if◌then◌else◌, Result, Ok, Err, OnErr}
 use Rattle.kt_machine.specs.Acts.{stepper}
-use Rattle.kt_net.specs.Clocks.{envelope, clocked_acts, clocked_row}
-use Rattle.kt_net.specs.declared.rows.ClockedRow.{ClockedRow}
+use Rattle.kt_node.specs.Clocks.{envelope, clocked_acts, clocked_row}
+use Rattle.kt_spacetime.specs.declared.named_rows.ClockedRow.{ClockedRow}
 use Rattle.kt_node.specs.declared.cluster.ClusterFault.{ClusterFault}
 use Rattle.kt_node.specs.declared.cluster.OnWay.{OnWay}
 use Rattle.kt_node.specs.declared.node.Output.{Output}

@@ -1,9 +1,9 @@
 use Rattle.std.proofs.Common.{◌≡◌, ◌∙◌, false, List, refl, sym, subst, arith}
 use Rattle.std.specs.Prelude.{◌&&◌, not, slice_index_or, Option, Ok}
 use Rattle.std.specs.List.{remove}
-use Rattle.kt_net.specs.Nodes.{Input, Held, Comes, is_in_rollback}
-use Rattle.kt_net.specs.Nets.{has_some}
-use Rattle.kt_net.specs.Clocks.{envelope, front_input}
+use Rattle.kt_node.specs.Nodes.{Input, Held, Comes, is_in_rollback}
+use Rattle.kt_node.specs.Nets.{has_some}
+use Rattle.kt_node.specs.Clocks.{envelope, front_input}
 use Rattle.kt_node.specs.Clusters.{link}
 use Rattle.kt_node.specs.Managers.{ManagerState, ShowsNode}
 use Rattle.kt_node.specs.declared.cluster.OnWay.{OnWay}

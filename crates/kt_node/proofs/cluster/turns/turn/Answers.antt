@@ -2,15 +2,15 @@ use Rattle.std.proofs.Common.{◌≡◌, ℤ, Some, refl, sym, ap, subst, rules}
 use Rattle.std.specs.Int.{w64}
 use Rattle.std.proofs.lemmas.Int.{to_z-of_z}
 use Rattle.kt_tables.specs.Calls.{Speaks}
-use Rattle.kt_net.specs.NodeSteps.{node_after}
+use Rattle.kt_node.specs.NodeSteps.{node_after}
 use Rattle.kt_node.specs.Links.{IsStep}
 use Rattle.std.specs.Prelude.{if◌then◌else◌, None}
 use Rattle.kt_meaning.specs.Past.{is_rollback_kind}
 use Rattle.kt_protocol.specs.States.{ProtocolStep}
 use Rattle.kt_protocol.specs.States as protocol
-use Rattle.kt_net.specs.Nodes.{Send, Begin}
+use Rattle.kt_node.specs.Nodes.{Send, Begin}
 use Rattle.kt_machine.specs.Acts.{stepper}
-use Rattle.kt_net.specs.Clocks.{source_of}
+use Rattle.kt_node.specs.Clocks.{source_of}
 use Rattle.kt_node.specs.Clusters.{step_of, link, IsSpeakable, IsTurn}
 use Rattle.kt_node.proofs.Turning.{own_turn}
 use Rattle.kt_node.proofs.cluster.turns.turn.Goals as goal

@@ -5,7 +5,7 @@ use Rattle.kt_process.specs.declared.actions.Action.{Action}
 use Rattle.kt_machine.specs.SeenJoining.{no_note}
 use Rattle.kt_process.specs.Shown.{HearsAs, IsProcessJoined}
 use Rattle.kt_spacetime.specs.declared.names.InstName.{InstName}
-use Rattle.kt_net.specs.Nodes.{Doing}
+use Rattle.kt_node.specs.Nodes.{Doing}
 use Rattle.kt_node.specs.Effects.{IsDone}
 use Rattle.kt_node.specs.Managers.{number_for, process_of}
 use Rattle.kt_node.specs.Turns.{able_in, marks_in, unwilling_row}

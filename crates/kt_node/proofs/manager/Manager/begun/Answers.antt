@@ -7,9 +7,9 @@ use Rattle.kt_process.specs.Shown.{BeginsAs, IsProcessJoined, label_by}
 use Rattle.kt_spacetime.specs.declared.names.InstName.{InstName}
 use Rattle.kt_spacetime.specs.declared.named_rows.NamedCause.{NamedCause}
 use Rattle.kt_spacetime.specs.declared.named_rows.NamedEvent.TheVariants.{Began}
-use Rattle.kt_net.specs.Nodes.{Doing}
-use Rattle.kt_net.specs.NodeClosing.{settling}
-use Rattle.kt_net.specs.NodeMessages.{refusing}
+use Rattle.kt_node.specs.Nodes.{Doing}
+use Rattle.kt_node.specs.NodeClosing.{settling}
+use Rattle.kt_node.specs.NodeMessages.{refusing}
 use Rattle.kt_node.specs.Effects.{IsDone}
 use Rattle.kt_node.specs.Managers.{ManagerState, HoldsFor, process_of}
 use Rattle.kt_node.specs.Turns.{able_in, marks_in, named_cause, joined_in}

@@ -4,9 +4,9 @@ use Rattle.std.specs.Prelude.{◌&&◌, nat_lt, is_none}
 use Rattle.kt_base.specs.declared.words.Kind.{Kind}
 use Rattle.kt_base.specs.declared.words.Kind.TheVariants.{Checkpoint}
 use Rattle.kt_process.specs.ProcessStates.{inst_of}
-use Rattle.kt_net.specs.declared.parcels.NodeParcel.{NodeParcel}
-use Rattle.kt_net.specs.declared.parcels.NodeParcel.TheVariants as put
-use Rattle.kt_net.specs.NodeLooks.{asks_to_save}
+use Rattle.kt_node.specs.declared.parcels.NodeParcel.{NodeParcel}
+use Rattle.kt_node.specs.declared.parcels.NodeParcel.TheVariants as put
+use Rattle.kt_node.specs.NodeLooks.{asks_to_save}
 use Rattle.kt_node.specs.Managers.{ManagerState}
 use Rattle.kt_node.proofs.Looking.{joins_is}
 use Rattle.kt_node.proofs.Processes.{shows_inside}

@@ -1,7 +1,7 @@
 use Rattle.std.proofs.Common.{◌∙◌, sym, ap}
 use Rattle.std.specs.Prelude.{Option}
 use Rattle.kt_spacetime.specs.declared.names.InstName.{InstName}
-use Rattle.kt_net.specs.NodeSteps.{is_in}
+use Rattle.kt_node.specs.NodeSteps.{is_in}
 use Rattle.kt_node.proofs.Messages.{shows_same}
 use Rattle.kt_node.proofs.Replying.{in_some, done_decided}
 use Rattle.kt_node.proofs.manager.Manager.take_decision.Goals as goal

@@ -3,8 +3,8 @@ use Rattle.std.specs.Int.{w64}
 use Rattle.std.proofs.lemmas.Int.{to_z-of_z}
 use Rattle.kt_meaning.specs.Past.{at_one}
 use Rattle.kt_tables.specs.Calls.{Speaks}
-use Rattle.kt_net.specs.Nodes.{NodeState}
-use Rattle.kt_net.specs.NodeMessages.{arriving}
+use Rattle.kt_node.specs.Nodes.{NodeState}
+use Rattle.kt_node.specs.NodeMessages.{arriving}
 use Rattle.kt_node.specs.Effects.{IsDone}
 use Rattle.kt_node.proofs.Processes.{shows_inside}
 use Rattle.kt_node.proofs.Messages.{shows_same, shows_popped, done_held}

@@ -1,6 +1,6 @@
 use Rattle.std.proofs.Common.{ℤ, [], ◌∷◌, ◌++◌, ◌∙◌, sym, ap, subst}
 use Rattle.kt_tables.specs.Calls.{Speaks}
-use Rattle.kt_net.specs.NodeMessages.{arriving}
+use Rattle.kt_node.specs.NodeMessages.{arriving}
 use Rattle.kt_node.specs.Effects.{IsDone}
 use Rattle.std.specs.Int.{w64}
 use Rattle.std.proofs.lemmas.Int.{to_z-of_z}

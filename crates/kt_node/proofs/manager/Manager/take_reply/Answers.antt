@@ -2,8 +2,8 @@ use Rattle.std.proofs.Common.{◌∙◌, sym, ap, subst}
 use Rattle.std.specs.Prelude.{Option}
 use Rattle.kt_process.specs.declared.actions.Action.{Action}
 use Rattle.kt_spacetime.specs.declared.names.InstName.{InstName}
-use Rattle.kt_net.specs.Nodes.{Doing}
-use Rattle.kt_net.specs.NodeSteps.{is_in}
+use Rattle.kt_node.specs.Nodes.{Doing}
+use Rattle.kt_node.specs.NodeSteps.{is_in}
 use Rattle.kt_node.specs.Effects.{IsDone}
 use Rattle.kt_node.specs.Managers.{process_of}
 use Rattle.kt_node.specs.Turns.{counted_in, gone_on}

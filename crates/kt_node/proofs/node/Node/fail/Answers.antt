@@ -1,5 +1,5 @@
 use Rattle.std.proofs.Common.{sym, subst, ap}
-use Rattle.kt_net.specs.Nodes.{Fail}
+use Rattle.kt_node.specs.Nodes.{Fail}
 use Rattle.kt_node.specs.Links.{NodeLinks}
 use Rattle.kt_node.specs.Managers.{ShowsNode}
 use Rattle.kt_node.proofs.Counts.{step_of, inside_reaches}

@@ -2,7 +2,7 @@ use Rattle.std.proofs.Common.{◌≡◌, ◌∙◌, ◌++◌, ◌+◌, ℕ, ap, 
 use Rattle.std.proofs.lemmas.List.{take_min}
 use Rattle.std.proofs.lemmas.Result.{IfOk-weaker}
 use Rattle.kt_spacetime.specs.declared.event.Event.{Event}
-use Rattle.kt_picture.specs.Breach.{breach_rows}
+use Rattle.kt_picture.specs.BrokenRow.{breach_rows}
 use Rattle.kt_picture.specs.Layers.{picture_text}
 use Rattle.kt_picture.specs.Links.{link_at}
 use Rattle.kt_picture.specs.Picture.{columns_of}

@@ -1,5 +1,0 @@
-use Rattle.kt_net.proofs.ActSteps.{acts_shown}
-use Rattle.kt_net.proofs.laws.acts_of_nets.Goals as goal
-
-pub returns : goal.returns
-returns c = record { same = acts_shown }

@@ -1,5 +1,0 @@
-use Rattle.kt_net.proofs.NodeCalls.{step_tells}
-use Rattle.kt_net.proofs.laws.calls_of_nodes.Goals as goal
-
-pub returns : goal.returns
-returns c = record { calls = step_tells }

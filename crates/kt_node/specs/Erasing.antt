@@ -1,0 +1,72 @@
+-- What names leave of a state of kt_machine's machine: what nets keep, and no numbers of instances and messages.
+use Rattle.std.specs.Prelude.{ℕ, ◌-◌, ◌==◌, if◌then◌else◌, Option, Some, None, unwrap_or, List, length, map}
+use Rattle.kt_fifo.specs.declared.parcels.Parcel.{Parcel}
+use Rattle.kt_fifo.specs.declared.parcels.Parcel.TheVariants as in_code
+use Rattle.kt_spacetime.specs.declared.event.Event.{Event}
+use Rattle.kt_machine.specs.Seen.{SeenProcess, Seen}
+use Rattle.kt_spacetime.specs.declared.names.InstName.{InstName}
+use Rattle.kt_spacetime.specs.declared.named_rows.NamedEvent.{NamedEvent}
+use Rattle.kt_spacetime.specs.declared.named_rows.NamedEvent.TheVariants.{Sent, Received, Dropped, Began, Took, Ready, Unwilling, Decided, Closed, Failed, Refused}
+use Rattle.kt_spacetime.specs.declared.named_rows.NamedRow.{NamedRow}
+use Rattle.kt_meaning.specs.Names.{nothing_given, given_by, name_of, row_of, instance_name}
+use Rattle.kt_node.specs.declared.parcels.NodeParcel.{NodeParcel}
+use Rattle.kt_node.specs.declared.parcels.NodeParcel.TheVariants.{App, Ask, Reply, Decide}
+use Rattle.kt_node.specs.Nodes.{NodeState}
+
+-- the name of an instance of a log
+abbrev pub name_in : List Event → ℕ → InstName
+name_in log k = unwrap_or (instance_name (given_by nothing_given log) k) (name_of 0 0)
+
+-- how many instances of a log a process began
+abbrev pub begun_by : ℕ → List Event → ℕ
+begun_by p log = length ((given_by nothing_given log).begun p)
+
+-- a parcel with the names of instances, and no number of a message
+abbrev pub erased_parcel : (ℕ → InstName) → Parcel → NodeParcel
+erased_parcel name (in_code.App label m body) = App label body
+erased_parcel name (in_code.Ask k kind label) = Ask (name k) kind label
+erased_parcel name (in_code.Reply k w) = Reply (name k) w
+erased_parcel name (in_code.Decide k c) = Decide (name k) c
+
+abbrev pub erased_parcels : (ℕ → InstName) → List Parcel → List NodeParcel
+erased_parcels name xs = map (erased_parcel name) xs
+
+-- the open instance that a process is in, by its name
+abbrev pub erased_inst : (ℕ → InstName) → ℕ → Option InstName
+erased_inst name k = if k == 0 then None else Some (name k)
+
+-- a process by these names: how many there are, which one it is, how many instances it began, what code keeps of it, and by
+-- sender what is held and kept for it
+abbrev pub erased_process : (ℕ → InstName) → ℕ → ℕ → ℕ → SeenProcess → (ℕ → List Parcel) → (ℕ → List Parcel) → NodeState
+erased_process name processes me begun y held kept = record {
+  processes = processes;
+  me = me;
+  calls = y.calls;
+  used = y.used;
+  begun = begun;
+  inst = erased_inst name y.inst;
+  part = y.part;
+  up = y.up;
+  held = λ q. erased_parcels name (held q);
+  kept = λ q. erased_parcels name (kept q);
+}
+
+abbrev pub erased_node : (ℕ → InstName) → Seen → ℕ → NodeState
+erased_node name v p = erased_process name v.processes p (begun_by p v.log) (v.states p) (λ q. v.held q p) (λ q. v.kept q p)
+
+-- a row where labels count on from 0, which was told where they count on from another one
+abbrev pub event_from : ℕ → NamedEvent → NamedEvent
+event_from first (Sent to body label) = Sent to body (label - first)
+event_from first (Received from label) = Received from (label - first)
+event_from first (Dropped from label) = Dropped from (label - first)
+event_from first (Began inst kind) = Began inst kind
+event_from first (Took inst) = Took inst
+event_from first (Ready inst) = Ready inst
+event_from first (Unwilling inst cause) = Unwilling inst cause
+event_from first (Decided inst commit) = Decided inst commit
+event_from first (Closed inst) = Closed inst
+event_from first Failed = Failed
+event_from first (Refused verb cause) = Refused verb cause
+
+abbrev pub rows_from : ℕ → List NamedRow → List NamedRow
+rows_from first rows = map (λ r. row_of r.p (event_from first r.event)) rows

@@ -1,0 +1,72 @@
+-- What a node does at each input.
+use Rattle.std.specs.Prelude.{ℕ, ◌==◌, ◌&&◌, not, nat_lt, if◌then◌else◌, Bool, true, false, Option, Some, None, is_none}
+use Rattle.kt_base.specs.declared.words.Verb.TheVariants as verb
+use Rattle.kt_meaning.specs.Past.{at_one, is_rollback_kind}
+use Rattle.kt_protocol.specs.Steps.{verb_for}
+use Rattle.kt_machine.specs.CallTests.{must_take, must_roll}
+use Rattle.kt_machine.specs.SeenJoining.{no_note}
+use Rattle.kt_machine.specs.SeenReplies.{part_after_reply}
+use Rattle.kt_spacetime.specs.declared.names.InstName.{InstName}
+use Rattle.kt_spacetime.specs.declared.named_rows.NamedCause.TheVariants.{Busy, Down}
+use Rattle.kt_node.specs.declared.parcels.NodeParcel.{NodeParcel}
+use Rattle.kt_node.specs.declared.parcels.NodeParcel.TheVariants.{App, Ask, Reply, Decide}
+use Rattle.kt_node.specs.Nodes.{NodeState, Input, Send, Begin, Fail, Held, Comes, Doing, nothing, is_in_rollback}
+use Rattle.kt_node.specs.NodeMessages.{sending, arriving, holding, taking_held, failing, refusing, unable}
+use Rattle.kt_node.specs.NodeJoining.{next_name, beginning, joining_checkpoint, joining_rollback, replying, unwilling, noting}
+use Rattle.kt_node.specs.NodeClosing.{closing, settling}
+
+-- whether a name is that of another instance too
+abbrev pub is_one : InstName → InstName → Bool
+is_one a b = (a.initiator == b.initiator) && (a.count == b.count)
+
+-- whether it is in instance k
+abbrev pub is_in : Option InstName → InstName → Bool
+is_in None k = false
+is_in (Some name) k = is_one name k
+
+-- it begins an instance and is its first member
+abbrev pub starting : NodeState → Bool → Doing
+starting y false = settling (next_name y) (joining_checkpoint (next_name y) None (beginning y false))
+starting y true = settling (next_name y) (joining_rollback (next_name y) None no_note (beginning y true))
+
+-- a command to begin: refused in an instance, and a checkpoint where the object can't be saved
+abbrev pub told_to_begin : Option InstName → NodeState → Bool → Bool → Doing
+told_to_begin (Some name) y roll able = refusing y (verb_for roll) (Busy name)
+told_to_begin None y true able = starting y true
+told_to_begin None y false able = if able && y.up then starting y false else refusing y verb.Checkpoint (unable y.up)
+
+-- q's ask to join k, a rollback or not: who is in another instance is unwilling, a member is willing and notes the label
+abbrev pub asked_inside : InstName → NodeState → ℕ → InstName → Bool → ℕ → Doing
+asked_inside name y q k roll label = if is_one name k then replying (noting y roll q label) q k true else unwilling y q k (Busy name)
+
+-- who is in none joins a rollback where it received a later message of q, and a checkpoint where it sent one so early
+abbrev pub asked_outside : NodeState → ℕ → Bool → InstName → Bool → ℕ → Doing
+asked_outside y q able k true label =
+    if must_roll y.calls q label then settling k (joining_rollback k (Some q) (at_one q (Some label) no_note) (nothing y)) else replying y q k true
+asked_outside y q able k false label =
+    if not (must_take y.calls q label) then replying y q k true
+    else if not (able && y.up) then unwilling y q k (unable y.up)
+    else settling k (joining_checkpoint k (Some q) (nothing y))
+
+abbrev pub asked : Option InstName → NodeState → ℕ → Bool → InstName → Bool → ℕ → Doing
+asked (Some name) y q able k roll label = asked_inside name y q k roll label
+asked None y q able k roll label = asked_outside y q able k roll label
+
+-- a parcel of q: only a reply that it awaits and the decision of its own instance change anything
+abbrev pub taking : NodeState → ℕ → Bool → NodeParcel → Doing
+taking y q able (App label body) = if is_in_rollback y then holding y q (App label body) else arriving y q label body
+taking y q able (Ask k kind label) = asked y.inst y q able k (is_rollback_kind (Some kind)) label
+taking y q able (Reply k w) = if is_in y.inst k && not (y.part.awaited == 0) then settling k (nothing (record y { part = part_after_reply y.part w })) else nothing y
+taking y q able (Decide k c) = if is_in y.inst k then closing k c (nothing y) else nothing y
+
+-- whether an input is a step: a send waits while its node is in an instance
+abbrev pub is_step : NodeState → Input → Bool
+is_step y (Send q body) = (nat_lt y.me y.processes && nat_lt q y.processes) && (is_none y.inst && not (q == y.me))
+is_step y _ = true
+
+abbrev pub node_after : NodeState → Input → Doing
+node_after y (Send q body) = if is_step y (Send q body) then (if y.up then sending y q body else refusing y verb.Send Down) else nothing y
+node_after y (Begin roll able) = told_to_begin y.inst y roll able
+node_after y Fail = if y.up then failing y else refusing y verb.Fail Down
+node_after y (Held q) = if is_in_rollback y then nothing y else taking_held y q (y.held q)
+node_after y (Comes q able x) = taking y q able x
