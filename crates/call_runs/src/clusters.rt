@@ -7,10 +7,10 @@ use crate::faults::{refused, value_of};
 use crate::merging::merge;
 use crate::node_steps::step_of;
 use kt_base::{Label, ProcNo};
-use kt_merge::{PartRow, write_part};
-use kt_net::ClockedRow;
+use kt_merge::write_part;
 use kt_node::{Cluster, Effects};
 use kt_plan::Act;
+use kt_spacetime::ClockedRow;
 use std::alloc::Global;
 use std::io;
 use std::io::Write;
@@ -43,14 +43,8 @@ fn follow<R: Print + AllocGlobal>(rt: &R, cluster: &mut Cluster, line: &str) -> 
 
 /// The text of a part.
 pub(crate) fn part_text(alloc: Global, part: &[ClockedRow]) -> io::Result<Vec<u8>> {
-    let mut rows = Vec::new(alloc);
-    for told in part {
-        let clock = told.clock;
-        let row = told.row;
-        rows.push(PartRow { clock, row })?;
-    }
     let mut text = Vec::new(alloc);
-    value_of(write_part(alloc, rows.as_slice(), &mut text))?;
+    value_of(write_part(alloc, part, &mut text))?;
     Ok(text)
 }
 

@@ -1,11 +1,12 @@
-//! Three nodes in a loop of this program's own, with a link from each to each other one.
+//! Three nodes in a loop of this program's own, with a link from each to each other one. Each is saved and read again
+//! after each of its steps, as by a program that is killed there.
 
 use crate::faults::{refused, value_of};
 use kt_base::{Label, ProcNo};
-use kt_net::ClockedRow;
 use kt_node::{ClusterStep, Envelope, Input, Node, NodeFault, Output, Taken};
+use kt_node_text::{load, save};
 use kt_plan::Look;
-use kt_spacetime::NamedRow;
+use kt_spacetime::{ClockedRow, NamedRow};
 use std::alloc::Global;
 use std::io;
 
@@ -34,6 +35,13 @@ pub(crate) enum Done {
     Step,
     Again,
     Refused(NodeFault),
+}
+
+/// The text of a node.
+pub(crate) fn text_of(alloc: Global, node: &Node) -> io::Result<Vec<u8>> {
+    let mut text = Vec::new(alloc);
+    value_of(save(node, &mut text))?;
+    Ok(text)
 }
 
 impl OnWay {
@@ -138,9 +146,21 @@ impl Net {
             }
         };
         match made {
-            Ok(output) => self.put(at, &output),
+            Ok(output) => {
+                self.renew(alloc, at)?;
+                self.put(at, &output)
+            }
             Err(fault) => Ok(Done::Refused(fault)),
         }
+    }
+
+    // A node is saved, and goes on as what is read of its text.
+    fn renew(&mut self, alloc: Global, at: ProcNo) -> io::Result<()> {
+        let Some(node) = self.nodes.get_mut(at.index()) else {
+            return refused();
+        };
+        *node = value_of(load(alloc, &text_of(alloc, node)?))?;
+        Ok(())
     }
 
     // Puts the parcels of a step on their way, and keeps its rows.

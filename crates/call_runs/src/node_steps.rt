@@ -1,8 +1,7 @@
 //! Steps by their words.
 
 use kt_base::{Kind, ProcNo};
-use kt_net::NodeParcel;
-use kt_node::{ClusterStep, Envelope};
+use kt_node::{ClusterStep, Envelope, NodeParcel};
 use kt_spacetime::{Count, InstName};
 
 /// A parcel that nobody put: who takes it, and who is said to have put it.

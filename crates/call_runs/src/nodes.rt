@@ -2,10 +2,11 @@
 
 use crate::clusters::part_text;
 use crate::faults::{refused, value_of};
-use crate::net::{Done, Net};
+use crate::net::{Done, Net, text_of};
 use crate::node_steps::{forged_of, step_of};
 use kt_base::ProcNo;
 use kt_node::{Input, Node};
+use kt_node_text::load;
 use kt_plan::Look;
 use std::io::Write;
 use std::{fs, io};
@@ -98,6 +99,19 @@ fn follow<R: Print + AllocGlobal>(rt: &R, net: &mut Net, line: &str) -> io::Resu
     }
 }
 
+// Shows what is read of a node's text without its last byte.
+fn show_cut<R: Print + AllocGlobal>(rt: &R, net: &Net) -> io::Result<()> {
+    let Some(node) = net.node(ProcNo::nth(0)) else {
+        return refused();
+    };
+    let mut text = text_of(rt.alloc(), node)?;
+    text.pop();
+    match load(rt.alloc(), &text) {
+        Ok(_) => refused(),
+        Err(fault) => println!(rt; "a node's text without its last byte: {fault}"),
+    }
+}
+
 /// Runs three nodes by stored steps, over links that are this program's, and shows each one's rows as its part of the log,
 /// and what was refused.
 pub(crate) fn show_nodes(rt: &HostRuntime) -> io::Result<()> {
@@ -107,5 +121,5 @@ pub(crate) fn show_nodes(rt: &HostRuntime) -> io::Result<()> {
     for line in text.lines() {
         follow(rt, &mut net, line)?;
     }
-    Ok(())
+    show_cut(rt, &net)
 }

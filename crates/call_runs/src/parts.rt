@@ -4,13 +4,14 @@ use crate::cases::{Case, next_piece};
 use crate::failing::FailingWriter;
 use crate::faults::{refused, value_of};
 use kt_base::ProcNo;
-use kt_merge::{PartRow, read_part, write_part};
+use kt_merge::{read_part, write_part};
+use kt_spacetime::ClockedRow;
 use std::alloc::Global;
 use std::io;
 
 // Whether a writer that takes 30 bytes a call and fails at this one is a write fault; what it holds then has to be a
 // beginning of the part.
-fn fails_at(alloc: Global, rows: &[PartRow], piece: &[u8], call: usize) -> io::Result<bool> {
+fn fails_at(alloc: Global, rows: &[ClockedRow], piece: &[u8], call: usize) -> io::Result<bool> {
     let mut writer = FailingWriter::new(Vec::new(alloc), 30, call);
     match write_part(alloc, rows, &mut writer) {
         Ok(()) => Ok(false),
@@ -20,7 +21,7 @@ fn fails_at(alloc: Global, rows: &[PartRow], piece: &[u8], call: usize) -> io::R
 }
 
 // At how many calls in turn it is a write fault.
-fn count_faults(alloc: Global, rows: &[PartRow], piece: &[u8]) -> io::Result<usize> {
+fn count_faults(alloc: Global, rows: &[ClockedRow], piece: &[u8]) -> io::Result<usize> {
     for call in 0..usize::MAX {
         if !fails_at(alloc, rows, piece, call)? {
             return Ok(call);

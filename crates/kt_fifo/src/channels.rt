@@ -189,6 +189,15 @@ impl Channels {
         self.fifos[self.place(from, to)].front()
     }
 
+    /// The parcel at a place of those from one process to another, the oldest at 0.
+    pub fn get(&self, from: ProcNo, to: ProcNo, place: usize) -> Option<&Parcel>
+        requires from { from < self.now.processes }
+        requires to { to < self.now.processes }
+        ensures { option_copied result ≡ slice_get (channel self.now from to) place }
+    {
+        self.fifos[self.place(from, to)].get(place)
+    }
+
     /// Makes room for that many parcels more, from one process to another.
     #[inline(always)]
     pub fn reserve_many(&mut self, from: ProcNo, to: ProcNo, count: usize) -> Result<(), Memory>

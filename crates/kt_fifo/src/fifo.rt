@@ -96,6 +96,13 @@ impl Fifo {
         self.parcels.front()
     }
 
+    /// The parcel at a place, the oldest at 0.
+    pub(crate) fn get(&self, place: usize) -> Option<&Parcel>
+        ensures { option_copied result ≡ slice_get self.now.parcels place }
+    {
+        self.parcels.get(place)
+    }
+
     /// Takes the oldest parcel.
     pub(crate) fn pop(&mut self) -> Option<Parcel>
         ensures front { result ≡ slice_get self.old.parcels 0 }

@@ -4,4 +4,5 @@ pub mod Hearing
 pub mod Targets
 pub mod CheckpointRulings
 pub mod NoteLists
+pub mod NoteTests
 pub mod RollbackRulings

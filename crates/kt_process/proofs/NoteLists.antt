@@ -39,7 +39,8 @@ put_notes low n (pair ∷ ps) q l h a b = elim (cases_lt pair.0 q) [
   ]
 ]
 
-notes_length : (low n : ℕ) (ps : Pairs) → AreNotes low n ps → low ≤ n → low + length ps ≤ n
+-- notes are no more than the processes
+pub notes_length : (low n : ℕ) (ps : Pairs) → AreNotes low n ps → low ≤ n → low + length ps ≤ n
 unfolding AreNotes
 notes_length low n [] h b = omega arith
 notes_length low n (pair ∷ ps) h b =

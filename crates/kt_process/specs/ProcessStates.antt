@@ -67,6 +67,12 @@ abbrev pub IsNumbered : Option Part → Type 0
 IsNumbered None = Unit {0}
 IsNumbered (Some part) = 1 ≤ part.inst
 
+-- a part in an instance belongs to tables
+pub record SideFits (t : State) (side : Option Side) : Type 0 where
+  pub tentative : t.is_tentative ≡ is_saving side
+  pub near : IsNear t.processes (part_of_side side)
+  pub marked : HasMarks t.processes side
+
 -- tables, part and labels belong together
 pub record ProcessFits (x : ProcessState) : Type 0 where
   pub few : x.tables.processes ≤ 64

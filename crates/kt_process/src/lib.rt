@@ -21,4 +21,5 @@ pub use actions::{Action, Then};
 pub use asks::Asks;
 pub use part::Part;
 pub use process::Process;
+pub use rolling::Rolling;
 pub use side::{Saving, Side};

@@ -1,7 +1,7 @@
 //! The labels that a process notes of those that asked it.
 
-ghost use Rattle.std.specs.Prelude.{◌≡◌, ◌<◌, ◌≤◌, length, IfOk};
-ghost use Rattle.kt_process.specs.Notes.{note_of, no_note, with_note};
+ghost use Rattle.std.specs.Prelude.{◌≡◌, ◌<◌, ◌≤◌, ◌↔◌, length, IsTrue, IfSome, IfNone, IfOk};
+ghost use Rattle.kt_process.specs.Notes.{note_of, no_note, with_note, AreNotes};
 ghost use Rattle.kt_tables.specs.Walks.{place_of, stands_at};
 
 use kt_base::{Label, Memory, ProcNo};
@@ -48,7 +48,51 @@ fn stands(pairs: &[(ProcNo, Label)], place: usize, process: ProcNo) -> bool
     place < pairs.len() && pairs[place].0.get() == process.get()
 }
 
+/// Whether pairs stand by rising process, each process below a number.
+fn are_notes(processes: usize, pairs: &[(ProcNo, Label)]) -> bool
+    ensures { IsTrue result ↔ AreNotes 0 processes pairs.now }
+{
+    let mut low: usize = 0;
+    for pair in pairs {
+        let process = pair.0.index();
+        if process < low || process >= processes {
+            return false;
+        }
+        low = process + 1;
+    }
+    true
+}
+
 impl Notes {
+    /// The notes of these pairs, of the processes below a number; None where they do not stand by rising process.
+    pub(crate) fn of(
+        alloc: Global,
+        processes: usize,
+        pairs: &[(ProcNo, Label)],
+    ) -> Result<Option<Notes>, Memory>
+        ensures some { IfOk result (λ made. IfSome made (λ n.
+            n ≡ record { processes = processes; pairs = pairs.now })) }
+        ensures none { IfOk result (λ made. IfNone made (AreNotes 0 processes pairs.now → ⊥)) }
+    {
+        if !are_notes(processes, pairs) {
+            return Ok(None);
+        }
+        let mut own = Vec::with_capacity(alloc, processes)?;
+        own.extend_from_slice(pairs).unwrap();
+        Ok(Some(Notes {
+            processes,
+            pairs: own,
+        }))
+    }
+
+    /// The pairs of a process and its label, by rising process.
+    pub(crate) fn pairs(&self) -> &[(ProcNo, Label)]
+        ensures pairs { result.now ≡ self.now.pairs }
+        ensures notes { AreNotes 0 self.now.processes result.now }
+    {
+        &self.pairs
+    }
+
     /// No note, with room for a note of each process.
     pub(crate) fn new(alloc: Global, processes: usize) -> Result<Notes, Memory>
         ensures processes { IfOk result (λ n. n.processes ≡ processes) }

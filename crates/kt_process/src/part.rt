@@ -49,6 +49,27 @@ impl Part {
         (part, Action::Join { ask: asks, goes })
     }
 
+    /// The part in an instance that was joined by an ask of this parent or begun, where these were asked, so many replies are
+    /// awaited, and all were willing so far or not.
+    pub fn of(
+        inst: InstNo,
+        parent: Option<ProcNo>,
+        asked: ProcSet,
+        awaited: u32,
+        willing: bool,
+    ) -> Part
+        ensures { result
+            ≡ record { inst = inst; parent = parent; asked = asked; awaited = awaited; willing = willing } }
+    {
+        Part {
+            inst,
+            parent,
+            asked,
+            awaited,
+            willing,
+        }
+    }
+
     /// The instance.
     pub fn inst(&self) -> InstNo
         ensures { result ≡ self.now.inst }
@@ -75,6 +96,13 @@ impl Part {
         ensures { result ≡ self.now.awaited }
     {
         self.awaited
+    }
+
+    /// Whether all that have replied were willing.
+    pub fn willing(&self) -> bool
+        ensures { result ≡ self.now.willing }
+    {
+        self.willing
     }
 
     /// How the process goes on that has just joined.

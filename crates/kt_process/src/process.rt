@@ -9,7 +9,7 @@ ghost use Rattle.kt_tables.specs.Standing.{TablesStandFor, CanReceive};
 ghost use Rattle.kt_process.specs.Replies.{IsReplyTo};
 ghost use Rattle.kt_process.specs.PartRules.{after_reply, settle_action};
 ghost use Rattle.kt_process.specs.Notes.{note_of};
-ghost use Rattle.kt_process.specs.ProcessStates.{ProcessState, part_of_side, is_saving, is_ready, inst_of, asked_of, IsNear, IsNumbered, ProcessFits};
+ghost use Rattle.kt_process.specs.ProcessStates.{ProcessState, part_of_side, is_saving, is_ready, inst_of, asked_of, IsNear, IsNumbered, SideFits, ProcessFits};
 ghost use Rattle.kt_process.specs.Turns.{reply_of, HasPartners, IsTold, joins_by, peers_of, marks_of, noted_by, IsFresh, IsBegin, IsHeard};
 ghost use Rattle.kt_machine.specs.Seen.{SeenProcess};
 ghost use Rattle.kt_process.specs.Shown.{IsSeenAs, BeginsAs, HearsAs, counted_as, closed_as, mark_of, no_mark, inst_shown};
@@ -17,7 +17,7 @@ ghost use Rattle.kt_process.specs.Shown.{IsSeenAs, BeginsAs, HearsAs, counted_as
 use crate::actions::Action;
 use crate::part::Part;
 use crate::side::{Saving, Side};
-use kt_base::{InstNo, Kind, Label, Labels, Memory, ProcNo, ProcSet, Standing};
+use kt_base::{InstNo, Kind, Label, Labels, Memory, ProcNo, ProcSet, Standing, members_in_range};
 use kt_tables::Tables;
 use std::alloc::Global;
 use std::marker::Model;
@@ -29,7 +29,7 @@ pub struct Process {
     tables: Tables,
     side: Option<Side>,
     up: bool,
-    labels: Labels,
+    used: Label,
 }
 
 impl Model for Process {
@@ -37,9 +37,9 @@ impl Model for Process {
 
     ghost Value = { ProcessState };
 
-    ghost view = { λ p. record { tables = p.tables; side = p.side; up = p.up; used = p.labels } };
+    ghost view = { λ p. record { tables = p.tables; side = p.side; up = p.up; used = p.used } };
 
-    ghost invariant = { λ p. ProcessFits (record { tables = p.tables; side = p.side; up = p.up; used = p.labels }) };
+    ghost invariant = { λ p. ProcessFits (record { tables = p.tables; side = p.side; up = p.up; used = p.used }) };
 }
 
 impl Process {
@@ -52,8 +52,49 @@ impl Process {
             tables: Tables::new(alloc, processes)?,
             side: None,
             up: true,
-            labels: Labels::after(used),
+            used,
         })
+    }
+
+    /// A process with these tables, this part in an instance, an object that is up or not, and the last label that it used;
+    /// None where they do not belong together.
+    pub fn of(tables: Tables, side: Option<Side>, up: bool, used: Label) -> Option<Process>
+        ensures some { IfSome result (λ p.
+            p ≡ record { tables = tables; side = side; up = up; used = used }) }
+        ensures none { IfNone result (
+            ProcessFits (record { tables = tables; side = side; up = up; used = used }) → ⊥) }
+    {
+        if !fits(&tables, &side, used) {
+            return None;
+        }
+        Some(Process {
+            tables,
+            side,
+            up,
+            used,
+        })
+    }
+
+    /// Its tables.
+    pub fn tables(&self) -> &Tables
+        ensures tables { result.now ≡ self.now.tables }
+        ensures fits { ProcessFits self.now }
+    {
+        &self.tables
+    }
+
+    /// Its part in the instance that it is in, and the kind of the instance.
+    pub fn side(&self) -> Option<&Side>
+        ensures { option_copied result ≡ self.now.side }
+    {
+        self.side.as_ref()
+    }
+
+    /// The last label that it used.
+    pub fn used(&self) -> Label
+        ensures { result ≡ self.now.used }
+    {
+        self.used
     }
 
     /// Whether its object is up.
@@ -101,7 +142,7 @@ impl Process {
     pub fn is_spent(&self) -> bool
         ensures { IsTrue result ↔ (2 ^ 48 - 1 ≤ self.now.used) }
     {
-        self.labels.is_spent()
+        Labels::after(self.used).is_spent()
     }
 
     /// How it stands, where its object can or cannot be saved.
@@ -201,7 +242,8 @@ impl Process {
         ensures stands { (calls : List Call) → TablesStandFor self.old.tables calls → Speaks (calls ++ sent to result ∷ []) → TablesStandFor self.new.tables (calls ++ sent to result ∷ []) }
         ensures shows { (y : SeenProcess) → IsSeenAs self.old y → Speaks (y.calls ++ sent to (y.used + 1) ∷ []) → IsSeenAs self.new (record y { calls = y.calls ++ sent to (y.used + 1) ∷ []; used = y.used + 1 }) }
     {
-        let label = self.labels.next().unwrap();
+        let label = Labels::after(self.used).next().unwrap();
+        self.used = label;
         self.tables.sent(to, label);
         label
     }
@@ -416,6 +458,58 @@ impl Process {
             None => ProcSet::empty(),
         }
     }
+}
+
+/// Whether all processes of a set are below a number, which is at most 64.
+fn are_below(set: ProcSet, count: usize) -> bool
+    ensures { IsTrue result ↔ ((q : ℕ) → has set q ≡ true → q < count) }
+{
+    members_in_range();
+    for number in 0..ProcNo::COUNT {
+        if usize::from(number) >= count && set.has(ProcNo::nth(number)) {
+            return false;
+        }
+    }
+    true
+}
+
+/// Whether those that a part names are among that many processes.
+fn is_near(part: &Part, count: usize) -> bool
+    ensures near { IsTrue result ↔ IsNear count (Some part.now) }
+    ensures numbered { IsNumbered (Some part.now) }
+{
+    let _inst = part.inst();
+    let below = match part.parent() {
+        Some(parent) => parent.index() < count,
+        None => true,
+    };
+    below && are_below(part.asked(), count)
+}
+
+/// Whether a part in an instance belongs to these tables.
+fn suits(tables: &Tables, side: &Option<Side>) -> bool
+    ensures fits { IsTrue result ↔ SideFits tables.now side.now }
+    ensures numbered { IsNumbered (part_of_side side.now) }
+    ensures few { tables.now.processes ≤ 64 }
+{
+    let count = tables.processes();
+    match side {
+        Some(Side::Checkpoint(side)) => {
+            is_near(side.part(), count) && tables.is_tentative() && side.marks().len() == count
+        }
+        Some(Side::Rollback(side)) => {
+            is_near(side.part(), count) && !tables.is_tentative() && side.processes() == count
+        }
+        None => !tables.is_tentative(),
+    }
+}
+
+/// Whether tables, part and labels belong together.
+fn fits(tables: &Tables, side: &Option<Side>, used: Label) -> bool
+    ensures { (up : Bool) → IsTrue result
+        ↔ ProcessFits (record { tables = tables.now; side = side.now; up = up; used = used }) }
+{
+    tables.are_sent_up_to(used) && suits(tables, side)
 }
 
 /// The parent of a part and those that it asked, if it awaits one reply.

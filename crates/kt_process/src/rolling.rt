@@ -1,15 +1,16 @@
 //! The part of one process in one instance of rollback.
 
-ghost use Rattle.std.specs.Prelude.{◌≡◌, ◌<◌};
+ghost use Rattle.std.specs.Prelude.{◌≡◌, ◌<◌, IfSome, IfNone, IfOk};
 ghost use Rattle.kt_process.specs.PartRules.{after_reply, reply_action, settle_action};
 ghost use Rattle.kt_process.specs.Counts.{counts_of, counts_at_reply};
-ghost use Rattle.kt_process.specs.Notes.{note_of};
+ghost use Rattle.kt_process.specs.Notes.{note_of, AreNotes};
 ghost use Rattle.kt_process.specs.RollingSides.{IsSideAfter};
 
 use crate::actions::Action;
 use crate::notes::Notes;
 use crate::part::Part;
-use kt_base::{Label, ProcNo};
+use kt_base::{Label, Memory, ProcNo};
+use std::alloc::Global;
 use std::marker::Model;
 
 /// One process's part in one instance of rollback: what it has in any instance, and the labels that it noted of those
@@ -35,6 +36,32 @@ impl Rolling {
         ensures notes { result.notes ≡ notes }
     {
         Rolling { part, notes }
+    }
+
+    /// The part of a process, among that many, that noted the labels of these pairs; None where the pairs do not stand by
+    /// rising process.
+    pub fn of(
+        alloc: Global,
+        processes: usize,
+        part: Part,
+        noted: &[(ProcNo, Label)],
+    ) -> Result<Option<Rolling>, Memory>
+        ensures some { IfOk result (λ made. IfSome made (λ s.
+            s ≡ record { part = part; notes = record { processes = processes; pairs = noted.now } })) }
+        ensures none { IfOk result (λ made. IfNone made (AreNotes 0 processes noted.now → ⊥)) }
+    {
+        match Notes::of(alloc, processes, noted)? {
+            Some(notes) => Ok(Some(Rolling { part, notes })),
+            None => Ok(None),
+        }
+    }
+
+    /// The pairs of a process that asked this one and the label that it noted of it, by rising process.
+    pub fn notes(&self) -> &[(ProcNo, Label)]
+        ensures pairs { result.now ≡ self.now.notes.pairs }
+        ensures notes { AreNotes 0 self.now.notes.processes result.now }
+    {
+        self.notes.pairs()
     }
 
     /// What it has in any instance: whom it asked, and what they replied.

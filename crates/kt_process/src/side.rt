@@ -24,7 +24,7 @@ impl Model for Saving {
 
 impl Saving {
     /// A part in a checkpoint, with these marks.
-    pub(crate) fn new(part: Part, marks: Vec<usize>) -> Saving
+    pub fn new(part: Part, marks: Vec<usize>) -> Saving
         ensures { result ≡ record { part = part; marks = marks.items } }
     {
         Saving { part, marks }

@@ -1,3 +1,4 @@
+mod TableTests
 pub mod CallParts
 pub mod Cohorts
 pub mod Following

@@ -1,5 +1,6 @@
 pub mod Calls
 pub mod Labels
+pub mod Lists
 pub mod Peers
 pub mod Standing
 pub mod States

@@ -1,6 +1,6 @@
 //! One table: a label for each peer that has one.
 
-ghost use Rattle.std.specs.Prelude.{◌≡◌, ◌<◌, ◌∷◌, [], ℕ, true, if◌then◌else◌, max, IfOk, ◌≤◌, length, drop, All, AllPairs};
+ghost use Rattle.std.specs.Prelude.{◌≡◌, ◌<◌, ◌∷◌, [], ℕ, true, if◌then◌else◌, max, ◌↔◌, IsTrue, IfSome, IfNone, IfOk, ◌≤◌, length, drop, All, AllPairs};
 ghost use Rattle.kt_base.specs.Sets.{has};
 ghost use Rattle.kt_tables.specs.Peers.{label_of, find_label, IsTable, no_label, at_peer, has_one, count_peers, IsCohort};
 ghost use Rattle.kt_tables.specs.Walks.{place_of, after_peer, smaller_head, head_label, stands_at};
@@ -156,7 +156,68 @@ fn smaller(first: &[(ProcNo, Label)], second: &[(ProcNo, Label)]) -> Option<Proc
     }
 }
 
+/// Whether the labels of some pairs are at most this one.
+fn are_at_most(pairs: &[(ProcNo, Label)], most: Label) -> bool
+    ensures { (n : ℕ) → IsTable 0 n pairs.now →
+        (IsTrue result ↔ ((q : ℕ) → find_label pairs.now q ≤ most)) }
+{
+    for pair in pairs {
+        if pair.1.get() > most.get() {
+            return false;
+        }
+    }
+    true
+}
+
+/// Whether pairs stand by rising peer, each peer below a number and each label above 0.
+fn is_table(peers: usize, pairs: &[(ProcNo, Label)]) -> bool
+    ensures { IsTrue result ↔ IsTable 0 peers pairs.now }
+{
+    let mut low: usize = 0;
+    for pair in pairs {
+        let peer = pair.0.index();
+        if peer < low || peer >= peers || pair.1.get() == 0 {
+            return false;
+        }
+        low = peer + 1;
+    }
+    true
+}
+
 impl PeerLabels {
+    /// The table of these pairs, for the peers below a number; None where they are those of no table.
+    pub(crate) fn of(
+        alloc: Global,
+        peers: usize,
+        pairs: &[(ProcNo, Label)],
+    ) -> Result<Option<PeerLabels>, Memory>
+        ensures some { IfOk result (λ made. IfSome made (λ t.
+            t ≡ record { peers = peers; pairs = pairs.now })) }
+        ensures none { IfOk result (λ made. IfNone made (IsTable 0 peers pairs.now → ⊥)) }
+    {
+        if !is_table(peers, pairs) {
+            return Ok(None);
+        }
+        let mut own = Vec::with_capacity(alloc, peers)?;
+        own.extend_from_slice(pairs).unwrap();
+        Ok(Some(PeerLabels { peers, pairs: own }))
+    }
+
+    /// Whether no label is above this one.
+    pub(crate) fn are_at_most(&self, most: Label) -> bool
+        ensures { IsTrue result ↔ ((q : ℕ) → label_of self.now q ≤ most) }
+    {
+        are_at_most(&self.pairs, most)
+    }
+
+    /// The pairs of a peer and its label, by rising peer.
+    pub(crate) fn pairs(&self) -> &[(ProcNo, Label)]
+        ensures pairs { result.now ≡ self.now.pairs }
+        ensures table { IsTable 0 self.now.peers result.now }
+    {
+        &self.pairs
+    }
+
     /// A table with no label, for the peers below a number of at most 64.
     pub(crate) fn new(alloc: Global, peers: usize) -> Result<PeerLabels, Memory>
         ensures peers { IfOk result (λ t. t.peers ≡ peers) }

@@ -1,14 +1,16 @@
 //! The tables of one process.
 
-ghost use Rattle.std.specs.Prelude.{◌≡◌, ℕ, ◌<◌, ◌≤◌, ◌+◌, ◌==◌, ◌↔◌, true, false, List, [], ◌∷◌, ◌++◌, IsTrue, IfOk, Contains, All, AllPairs, nat_lt, nat_le};
+ghost use Rattle.std.specs.Prelude.{◌≡◌, ℕ, ◌<◌, ◌≤◌, ◌+◌, ◌==◌, ◌↔◌, true, false, List, [], ◌∷◌, ◌++◌, IsTrue, IfSome, IfNone, IfOk, Contains, All, AllPairs, nat_lt, nat_le};
 ghost use Rattle.std.specs.List.{list_any};
 ghost use Rattle.kt_base.specs.Sets.{has};
 ghost use Rattle.kt_tables.specs.Calls.{Call, sent, received, on_tentative, on_commit, on_abort, on_rollback, Speaks, parts, parts_after, sents, receiveds};
 ghost use Rattle.kt_tables.specs.Labels.{has_label, greatest};
 ghost use Rattle.kt_tables.specs.States.{State};
 ghost use Rattle.kt_tables.specs.Standing.{TablesStandFor, CanSend, CanReceive};
+ghost use Rattle.kt_tables.specs.Lists.{state_of, AreTables};
 ghost use Rattle.kt_tables.specs.Peers.{label_of, no_label, at_peer, has_one, count_peers, IsCohort};
 
+use crate::lists::TableLists;
 use crate::peers::PeerLabels;
 use kt_base::{Label, Memory, ProcNo, ProcSet};
 use std::alloc::Global;
@@ -121,6 +123,67 @@ impl Tables {
             last_out: PeerLabels::new(alloc, processes)?,
             merged: PeerLabels::new(alloc, processes)?,
         })
+    }
+
+    /// The tables of these lists, for a process among that many, at most 64; None where a list is that of no table.
+    pub fn of(
+        alloc: Global,
+        processes: usize,
+        is_tentative: bool,
+        lists: &TableLists,
+    ) -> Result<Option<Tables>, Memory>
+        requires { processes ≤ 64 }
+        ensures some { IfOk result (λ made. IfSome made (λ t.
+            t ≡ state_of processes is_tentative lists.now)) }
+        ensures none { IfOk result (λ made. IfNone made (AreTables processes lists.now → ⊥)) }
+    {
+        let (Some(last_rcvd), Some(first_sent), Some(kept_rcvd)) = (
+            PeerLabels::of(alloc, processes, lists.last_rcvd)?,
+            PeerLabels::of(alloc, processes, lists.first_sent)?,
+            PeerLabels::of(alloc, processes, lists.kept_rcvd)?,
+        ) else {
+            return Ok(None);
+        };
+        let (Some(kept_sent), Some(last_sent), Some(last_out)) = (
+            PeerLabels::of(alloc, processes, lists.kept_sent)?,
+            PeerLabels::of(alloc, processes, lists.last_sent)?,
+            PeerLabels::of(alloc, processes, lists.last_out)?,
+        ) else {
+            return Ok(None);
+        };
+        Ok(Some(Tables {
+            processes,
+            is_tentative,
+            last_rcvd,
+            first_sent,
+            kept_rcvd,
+            kept_sent,
+            last_sent,
+            last_out,
+            merged: PeerLabels::new(alloc, processes)?,
+        }))
+    }
+
+    /// Whether no message with a label above this one is noted as sent.
+    pub fn are_sent_up_to(&self, most: Label) -> bool
+        ensures { IsTrue result ↔ ((q : ℕ) → label_of self.now.last_out q ≤ most) }
+    {
+        self.last_out.are_at_most(most)
+    }
+
+    /// What they are made of.
+    pub fn lists(&self) -> TableLists<'_>
+        ensures state { self.now ≡ state_of self.now.processes self.now.is_tentative result }
+        ensures tables { AreTables self.now.processes result }
+    {
+        TableLists {
+            last_rcvd: self.last_rcvd.pairs(),
+            first_sent: self.first_sent.pairs(),
+            kept_rcvd: self.kept_rcvd.pairs(),
+            kept_sent: self.kept_sent.pairs(),
+            last_sent: self.last_sent.pairs(),
+            last_out: self.last_out.pairs(),
+        }
     }
 
     /// How many processes there are: each process that a call names is below this number.

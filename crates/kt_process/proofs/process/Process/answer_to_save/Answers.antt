@@ -9,7 +9,7 @@ use Rattle.kt_process.proofs.process.Process.answer_to_save.Goals as goal
 
 pub returns-clause-shows : goal.returns-clause-shows
 returns-clause-shows c = IfSome_then c.answer.result c.answer.ensures.rule (λ action rule. λ y marks h.
-    let x : ProcessState = record { tables = c.self.inside.tables; side = c.self.inside.side; up = c.self.inside.up; used = c.self.inside.labels } in
+    let x : ProcessState = record { tables = c.self.inside.tables; side = c.self.inside.side; up = c.self.inside.up; used = c.self.inside.used } in
     let k = subst (λ (z : ProcessState). IsSeenAs z y) (sym c.self.view_is) h in
     let s = c.standing.result in
     subst (λ (z : ProcessState). HearsAs kind.Checkpoint c.args.able z.tables.processes c.args.from c.args.inst c.args.label marks y z action) c.self.view_is

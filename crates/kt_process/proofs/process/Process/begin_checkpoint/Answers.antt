@@ -20,10 +20,10 @@ abbrev As : goal.Joined-part → SeenProcess → ProcessState → Type 0
 As c y z = BeginsAs kind.Checkpoint c.args.able c.args.self.now.tables.processes c.args.inst (mark_of c.args.marks.items) y z c.in_ok-part.action
 
 abbrev before : goal.Joined-part → ProcessState
-before c = record { tables = c.self.inside.tables; side = c.self.inside.side; up = c.self.inside.up; used = c.self.inside.labels }
+before c = record { tables = c.self.inside.tables; side = c.self.inside.side; up = c.self.inside.up; used = c.self.inside.used }
 
 joins : (c : goal.Joined-part) (y : SeenProcess) (part : Part) (new : SaveSide) → IsSeenAs c.args.self.now y → c.in_ok-part.part ≡ Some part → new ≡ record { part = part; marks = c.args.marks.items } →
-    As c y (record { tables = c.start.new.tables; side = Some (side.Checkpoint new); up = c.self.inside.up; used = c.self.inside.labels })
+    As c y (record { tables = c.start.new.tables; side = Some (side.Checkpoint new); up = c.self.inside.up; used = c.self.inside.used })
 joins c y part new h is made =
     let x = before c in
     let k = subst (λ (z : ProcessState). IsSeenAs z y) (sym c.self.view_is) h in
@@ -34,15 +34,15 @@ joins c y part new h is made =
     let cohort = subst (λ (o : Option Part). OnSome o ((calls : List Call) → TablesStandFor x.tables calls → AsksCheckpointCohort calls action)) is c.in_ok-part.ensures.cohort in
     let stands = subst (λ (o : Option Part). OnSome o ((calls : List Call) → TablesStandFor x.tables calls → TablesStandFor c.start.new.tables (calls ++ on_tentative ∷ []))) is c.in_ok-part.ensures.stands in
     subst (λ (z : ProcessState). BeginsAs kind.Checkpoint c.args.able z.tables.processes c.args.inst (mark_of c.args.marks.items) y
-    (record { tables = c.start.new.tables; side = Some (side.Checkpoint new); up = c.self.inside.up; used = c.self.inside.labels }) action) c.self.view_is
+    (record { tables = c.start.new.tables; side = Some (side.Checkpoint new); up = c.self.inside.up; used = c.self.inside.used }) action) c.self.view_is
     (subst (λ (m : SaveSide). BeginsAs kind.Checkpoint c.args.able x.tables.processes c.args.inst (mark_of c.args.marks.items) y
-    (record { tables = c.start.new.tables; side = Some (side.Checkpoint m); up = c.self.inside.up; used = c.self.inside.labels }) action) (sym made)
+    (record { tables = c.start.new.tables; side = Some (side.Checkpoint m); up = c.self.inside.up; used = c.self.inside.used }) action) (sym made)
     (begins_save x y c.start.new.tables s c.args.able part c.args.marks.items x.tables.processes c.args.inst action c.standing-standing.ensures.able k c.self.invariant.numbered c.self.invariant.few
     (subst (λ (z : ProcessState). s.in_inst ≡ inst_of z.side) (sym c.self.view_is) c.standing-standing.ensures.inst)
     (subst (λ (z : ProcessState). s.up ≡ z.up) (sym c.self.view_is) c.standing-standing.ensures.up) rule join cohort stands))
 
 stays : (c : goal.Joined-part) (y : SeenProcess) → IsSeenAs c.args.self.now y → c.in_ok-part.part ≡ None →
-    As c y (record { tables = c.start.new.tables; side = c.self.inside.side; up = c.self.inside.up; used = c.self.inside.labels })
+    As c y (record { tables = c.start.new.tables; side = c.self.inside.side; up = c.self.inside.up; used = c.self.inside.used })
 stays c y h is =
     let x = before c in
     let k = subst (λ (z : ProcessState). IsSeenAs z y) (sym c.self.view_is) h in
@@ -51,7 +51,7 @@ stays c y h is =
     let rule = subst (λ (o : Option Part). IsCheckpointStart s o action) is c.in_ok-part.ensures.rule in
     let same = subst (λ (o : Option Part). IfNone o (c.start.new.tables ≡ x.tables)) is c.in_ok-part.ensures.refused in
     subst (λ (z : ProcessState). BeginsAs kind.Checkpoint c.args.able z.tables.processes c.args.inst (mark_of c.args.marks.items) y
-    (record { tables = c.start.new.tables; side = c.self.inside.side; up = c.self.inside.up; used = c.self.inside.labels }) action) c.self.view_is
+    (record { tables = c.start.new.tables; side = c.self.inside.side; up = c.self.inside.up; used = c.self.inside.used }) action) c.self.view_is
     (subst (λ (t : State). BeginsAs kind.Checkpoint c.args.able x.tables.processes c.args.inst (mark_of c.args.marks.items) y (record x { tables = t }) action) (sym same)
     (refuses_save x y s c.args.able (mark_of c.args.marks.items) x.tables.processes c.args.inst action c.standing-standing.ensures.able k c.self.invariant.numbered
     (subst (λ (z : ProcessState). s.in_inst ≡ inst_of z.side) (sym c.self.view_is) c.standing-standing.ensures.inst)

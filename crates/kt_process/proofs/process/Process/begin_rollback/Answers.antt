@@ -21,7 +21,7 @@ abbrev As : goal.Joined-side → SeenProcess → ProcessState → Type 0
 As c y z = BeginsAs kind.Rollback true c.args.self.now.tables.processes c.args.inst no_mark y z c.in_ok-side.action
 
 abbrev before : goal.Joined-side → ProcessState
-before c = record { tables = c.self.inside.tables; side = c.self.inside.side; up = c.self.inside.up; used = c.self.inside.labels }
+before c = record { tables = c.self.inside.tables; side = c.self.inside.side; up = c.self.inside.up; used = c.self.inside.used }
 
 joins : (c : goal.Joined-side) (y : SeenProcess) (r : RollSide) → IsSeenAs c.args.self.now y → c.in_ok-side.side ≡ Some r → As c y (record (before c) { side = Some (side.Rollback r) })
 joins c y r h is =

@@ -41,7 +41,7 @@ returns-in_ok-action-in-Some-Rollback-clause-shows c = λ y h.
     (subst (λ (z : ProcessState). IsSeenAs (record z { side = Some (side.Rollback c.on_ask.new.side.0) }) (noted_as kind.Rollback c.args.from c.args.inst c.args.label y)) (sym c.self.view_is) noted)
 
 abbrev before_save : goal.Joined-branch-4 → ProcessState
-before_save c = record { tables = c.self.inside.tables; side = c.self.inside.side; up = c.self.inside.up; used = c.self.inside.labels }
+before_save c = record { tables = c.self.inside.tables; side = c.self.inside.side; up = c.self.inside.up; used = c.self.inside.used }
 
 pub returns-in_ok-action-in-Some-Checkpoint-clause-shows : goal.returns-in_ok-action-in-Some-Checkpoint-clause-shows
 returns-in_ok-action-in-Some-Checkpoint-clause-shows c = λ y h.
@@ -64,7 +64,7 @@ abbrev As : goal.Joined-side → SeenProcess → ProcessState → Type 0
 As c y z = HearsAs kind.Rollback true c.args.self.now.tables.processes c.args.from c.args.inst c.args.label no_mark y z c.in_ok-side-in-None.action
 
 abbrev before : goal.Joined-side → ProcessState
-before c = record { tables = c.self.inside.tables; side = c.self.inside.side; up = c.self.inside.up; used = c.self.inside.labels }
+before c = record { tables = c.self.inside.tables; side = c.self.inside.side; up = c.self.inside.up; used = c.self.inside.used }
 
 joins : (c : goal.Joined-side) (y : SeenProcess) (r : RollSide) → IsSeenAs c.args.self.now y → c.in_ok-side-in-None.side ≡ Some r → As c y (record (before c) { side = Some (side.Rollback r) })
 joins c y r h is =

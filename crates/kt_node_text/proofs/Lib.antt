@@ -1,0 +1,10 @@
+pub mod Bits
+pub mod GatheredReads
+pub mod ListReads
+pub mod MadeAgain
+pub mod OneAfterAnother
+pub mod OneForm
+pub mod Parts
+pub mod Rests
+pub mod Same
+pub mod Words

@@ -1,0 +1,126 @@
+-- What is made of the form of a process, a manager or a node has that form again, and belongs together as it does.
+use Rattle.std.proofs.Common.{◌≡◌, ◌∙◌, ◌+◌, ◌-◌, ◌^◌, ◌<◌, ◌≤◌, ◌∷◌, ◌++◌, ℕ, Bool, List, [], refl, sym, ap, subst, arith}
+use Rattle.std.specs.Prelude.{zero, suc, Option, slice_index}
+use Rattle.kt_fifo.specs.Channels.{ChannelLists, channel}
+use Rattle.kt_tables.specs.Peers.{find_label, label_of}
+use Rattle.kt_tables.specs.States.{State}
+use Rattle.kt_process.specs.ProcessStates.{ProcessState, ProcessFits, is_saving, part_of_side, IsNear, HasMarks}
+use Rattle.kt_process.specs.declared.side.Side.{Side}
+use Rattle.kt_spacetime.specs.declared.names.InstName.{InstName}
+use Rattle.kt_node.specs.Managers.{ManagerState, IsSoundManager}
+use Rattle.kt_node.specs.Links.{NodeLinks, AreCounted}
+use Rattle.kt_node.specs.declared.reach.Reaches.{Reaches}
+use Rattle.kt_node_text.specs.Form.{gather, counted, of_parcel, of_lists, of_flag, of_name, of_side, of_tables, of_process, of_manager, of_list, of_reaches, numbers_of, version}
+use Rattle.kt_node_text.proofs.GatheredReads.{list_form}
+use Rattle.kt_node_text.proofs.Parts.{one_tables}
+
+same_labels : (t u : State) (q n : ℕ) → of_tables t ≡ of_tables u → label_of u.last_out q ≤ n → label_of t.last_out q ≤ n
+unfolding label_of
+same_labels t u q n e h =
+    let same = one_tables t u [] [] (ap (λ (l : List ℕ). l ++ []) e) in
+    subst (λ (ps : List (ℕ × ℕ)). find_label ps q ≤ n) (sym same.0.last_out) h
+
+with_tables : (x : ProcessState) (t : State) → ProcessFits x → t.processes ≡ x.tables.processes → t.is_tentative ≡ is_saving x.side → of_tables t ≡ of_tables x.tables →
+    ProcessFits (record { tables = t; side = x.side; up = x.up; used = x.used })
+with_tables x t f size tentative e = record {
+  few = subst (λ (n : ℕ). n ≤ 64) (sym size) f.few;
+  tentative = tentative;
+  near = subst (λ (n : ℕ). IsNear n (part_of_side x.side)) (sym size) f.near;
+  marked = subst (λ (n : ℕ). HasMarks n x.side) (sym size) f.marked;
+  numbered = f.numbered;
+  used = λ q. same_labels t x.tables q x.used e (f.used q);
+}
+
+-- what was read of a process
+pub record IsReadOf (x : ProcessState) (t : State) (side : Option Side) (up : Bool) (used : ℕ) : Type 0 where
+  pub size : t.processes ≡ x.tables.processes
+  pub tentative : t.is_tentative ≡ is_saving side
+  pub tables : of_tables t ≡ of_tables x.tables
+  pub part : side ≡ x.side
+  pub is_up : up ≡ x.up
+  pub last : used ≡ x.used
+
+abbrev made_of : State → Option Side → Bool → ℕ → ProcessState
+made_of t side up used = record { tables = t; side = side; up = up; used = used }
+
+parts_are : (x : ProcessState) (t : State) (side : Option Side) (up : Bool) (used : ℕ) → IsReadOf x t side up used →
+    made_of t x.side x.up x.used ≡ made_of t side up used
+parts_are x t side up used h = λ i. record { tables = t; side = sym h.part i; up = sym h.is_up i; used = sym h.last i }
+
+pub fits_again : (x : ProcessState) (t : State) (side : Option Side) (up : Bool) (used : ℕ) → ProcessFits x → IsReadOf x t side up used →
+    ProcessFits (record { tables = t; side = side; up = up; used = used })
+fits_again x t side up used f h =
+    subst ProcessFits (parts_are x t side up used h) (with_tables x t f h.size (h.tentative ∙ ap is_saving h.part) h.tables)
+
+pub form_again : (x : ProcessState) (t : State) (side : Option Side) (up : Bool) (used : ℕ) → IsReadOf x t side up used →
+    of_process (record { tables = t; side = side; up = up; used = used }) ≡ of_process x
+form_again x t side up used h =
+    sym (ap of_process (parts_are x t side up used h)) ∙ ap (λ (l : List ℕ). x.used ∷ of_flag x.up ∷ of_side x.side ++ l) h.tables
+
+-- the lists to one process are of one form where they are the same
+same_gather : (n : ℕ) (f g : ℕ → List ℕ) → ((q : ℕ) → q < n → f q ≡ g q) → gather n f ≡ gather n g
+unfolding gather
+same_gather zero f g h = refl
+same_gather (suc n) f g h = λ i. same_gather n f g (λ q b. h q (omega arith)) i ++ h n (omega arith) i
+
+same_lists : (u v : ChannelLists) (m n p q : ℕ) → m ≡ n → p ≡ q → ((k : ℕ) → k < m → channel u k p ≡ channel v k p) → of_lists m p u ≡ of_lists n q v
+same_lists u v m n p q e f h = same_gather m (list_form u p) (list_form v p) (λ k b. ap (counted of_parcel) (h k b)) ∙ (λ i. of_lists (e i) (f i) v)
+
+-- what was read of a manager
+pub record IsReadManager (w : ManagerState) (size me : ℕ) (process : ProcessState) (inst : Option InstName) (begun : ℕ) (held kept : ChannelLists) : Type 0 where
+  pub is_size : size ≡ w.size
+  pub is_me : me ≡ w.me
+  pub tables : process.tables.processes ≡ size
+  pub form : of_process process ≡ of_process w.process
+  pub name : inst ≡ w.inst
+  pub count : begun ≡ w.begun
+  pub held_of : held.processes ≡ size
+  pub kept_of : kept.processes ≡ size
+  pub held_same : (q : ℕ) → q < size → channel held q me ≡ channel w.held q me
+  pub kept_same : (q : ℕ) → q < size → channel kept q me ≡ channel w.kept q me
+
+abbrev pub manager_of : ℕ → ProcessState → Option InstName → ℕ → ChannelLists → ChannelLists → ManagerState
+manager_of me process inst begun held kept = record { size = process.tables.processes; me = me; process = process; inst = inst; begun = begun; held = held; kept = kept }
+
+pub sound_again : (w : ManagerState) (size me : ℕ) (process : ProcessState) (inst : Option InstName) (begun : ℕ) (held kept : ChannelLists) → IsSoundManager w →
+    IsReadManager w size me process inst begun held kept → IsSoundManager (manager_of me process inst begun held kept)
+sound_again w size me process inst begun held kept f h = record {
+  few = omega (arith, h.tables, h.is_size, f.few);
+  me = omega (arith, h.tables, h.is_size, h.is_me, f.me);
+  tables = refl;
+  begun = subst (λ (n : ℕ). n < 2 ^ 48) (sym h.count) f.begun;
+  held = h.held_of ∙ sym h.tables;
+  kept = h.kept_of ∙ sym h.tables;
+}
+
+pub manager_again : (w : ManagerState) (size me : ℕ) (process : ProcessState) (inst : Option InstName) (begun : ℕ) (held kept : ChannelLists) →
+    IsReadManager w size me process inst begun held kept → of_manager (manager_of me process inst begun held kept) ≡ of_manager w
+manager_again w size me process inst begun held kept h =
+    let n : process.tables.processes ≡ w.size = h.tables ∙ h.is_size in
+    let held_form = same_lists held w.held process.tables.processes w.size me w.me n h.is_me (λ k b. h.held_same k (omega (arith, h.tables))) in
+    let kept_form = same_lists kept w.kept process.tables.processes w.size me w.me n h.is_me (λ k b. h.kept_same k (omega (arith, h.tables))) in
+    λ i. n i ∷ h.is_me i ∷ h.count i ∷ of_name (h.name i) ++ (h.form i ++ (held_form i ++ kept_form i))
+
+-- what was read of a node
+pub record IsReadNode (w : NodeLinks) (manager : ManagerState) (clock : ℕ) (sent taken : List ℕ) (reaches : Reaches) : Type 0 where
+  pub form : of_manager manager ≡ of_manager w.manager
+  pub is_clock : clock ≡ w.clock
+  pub is_sent : sent ≡ w.sent
+  pub is_taken : taken ≡ w.taken
+  pub goes : reaches ≡ w.reaches
+
+abbrev pub node_of : ManagerState → ℕ → List ℕ → List ℕ → Reaches → NodeLinks
+node_of manager clock sent taken reaches = record { manager = manager; clock = clock; sent = sent; taken = taken; reaches = reaches }
+
+pub counted_again : (w : NodeLinks) (manager : ManagerState) (clock : ℕ) (sent taken : List ℕ) (reaches : Reaches) → AreCounted w →
+    IsReadNode w manager clock sent taken reaches → AreCounted (node_of manager clock sent taken reaches)
+counted_again w manager clock sent taken reaches f h = record {
+  clock = subst (λ (n : ℕ). n < 2 ^ 64 - 1) (sym h.is_clock) f.clock;
+  sent = λ q. omega (arith, f.sent q, ap (λ (l : List ℕ). slice_index l q) h.is_sent, h.is_clock);
+  taken = λ q. omega (arith, f.taken q, ap (λ (l : List ℕ). slice_index l q) h.is_taken, h.is_clock);
+}
+
+pub node_again : (w : NodeLinks) (manager : ManagerState) (clock : ℕ) (sent taken : List ℕ) (reaches : Reaches) →
+    IsReadNode w manager clock sent taken reaches → numbers_of (node_of manager clock sent taken reaches) ≡ numbers_of w
+node_again w manager clock sent taken reaches h =
+    λ i. version ∷ h.is_clock i ∷ h.form i ++ (of_list (h.is_sent i) ++ (of_list (h.is_taken i) ++ of_reaches (h.goes i)))

@@ -1,0 +1,124 @@
+-- Of each thing there is one form, and no form begins another one.
+use Rattle.std.specs.Prelude.{ℤ, pos, negsuc, Option, Some, None, zero, suc}
+use Rattle.std.specs.List.{flat_map}
+use Rattle.std.proofs.Common.{◌≡◌, ◌∙◌, ◌+◌, ◌<◌, ℕ, Bool, true, false, List, [], ◌∷◌, ◌++◌, length, refl, sym, ap, arith, append_assoc, below_more}
+use Rattle.kt_base.specs.declared.words.Kind.{Kind}
+use Rattle.kt_base.specs.declared.words.Kind.TheVariants.{Checkpoint, Rollback}
+use Rattle.kt_fifo.specs.declared.parcels.Parcel.{Parcel}
+use Rattle.kt_fifo.specs.declared.parcels.Parcel.TheVariants.{App, Ask, Reply, Decide}
+use Rattle.kt_node_text.specs.Form.{of_flag, of_optional, of_list, counted, of_pair, gather, of_body, of_kind, of_parcel}
+
+abbrev pub Numbers : Type 0
+Numbers = List ℕ
+
+abbrev pub IsOneForm : {X : Type 0} → (X → Numbers) → Type 0
+IsOneForm {X} f = (x y : X) (r s : Numbers) → f x ++ r ≡ f y ++ s → (x ≡ y) × (r ≡ s)
+
+pub same_head : (x y : ℕ) (r s : Numbers) → x ∷ r ≡ y ∷ s → x ≡ y
+same_head x y r s e = cc
+
+pub same_tail : (x y : ℕ) (r s : Numbers) → x ∷ r ≡ y ∷ s → r ≡ s
+same_tail x y r s e = cc
+
+pub one_flag : (a b : Bool) → of_flag a ≡ of_flag b → a ≡ b
+one_flag false false e = refl
+one_flag false true e = absurd (omega arith)
+one_flag true false e = absurd (omega arith)
+one_flag true true e = refl
+
+pub one_kind : (a b : Kind) → of_kind a ≡ of_kind b → a ≡ b
+one_kind Checkpoint Checkpoint e = refl
+one_kind Checkpoint Rollback e = absurd (omega arith)
+one_kind Rollback Checkpoint e = absurd (omega arith)
+one_kind Rollback Rollback e = refl
+
+pub one_optional : (a b : Option ℕ) → of_optional a ≡ of_optional b → a ≡ b
+one_optional None None e = refl
+one_optional None (Some n) e = absurd (omega arith)
+one_optional (Some m) None e = absurd (omega arith)
+one_optional (Some m) (Some n) e = let h : m ≡ n = omega arith in ap (λ (k : ℕ). Some k) h
+
+pub one_pair : IsOneForm of_pair
+one_pair (a, b) (c, d) r s e =
+    let first : a ≡ c = cc in
+    let second : b ≡ d = cc in
+    let rest : r ≡ s = cc in (λ i. (first i, second i), rest)
+
+pub one_body : IsOneForm of_body
+one_body (pos m) (pos n) r s e = let h : m ≡ n = cc in let t : r ≡ s = cc in (ap pos h, t)
+one_body (pos m) (negsuc n) r s e = absurd (omega (arith, same_head _ _ _ _ e))
+one_body (negsuc m) (pos n) r s e = absurd (omega (arith, same_head _ _ _ _ e))
+one_body (negsuc m) (negsuc n) r s e =
+    let k : m + 1 ≡ n + 1 = same_head _ _ _ _ (same_tail _ _ _ _ e) in
+    let h : m ≡ n = omega arith in
+    (ap negsuc h, same_tail _ _ _ _ (same_tail _ _ _ _ e))
+
+pub one_parcel : IsOneForm of_parcel
+one_parcel (App l m b) (App k n c) r s e =
+    let label : l ≡ k = cc in
+    let number : m ≡ n = cc in
+    let rest : of_body b ++ r ≡ of_body c ++ s = same_tail _ _ _ _ (same_tail _ _ _ _ (same_tail _ _ _ _ e)) in
+    let body = one_body b c r s rest in (λ i. App (label i) (number i) (body.0 i), body.1)
+one_parcel (App l m b) (Ask k d n) r s e = absurd (omega (arith, same_head _ _ _ _ e))
+one_parcel (App l m b) (Reply k w) r s e = absurd (omega (arith, same_head _ _ _ _ e))
+one_parcel (App l m b) (Decide k w) r s e = absurd (omega (arith, same_head _ _ _ _ e))
+one_parcel (Ask j k l) (App m n b) r s e = absurd (omega (arith, same_head _ _ _ _ e))
+one_parcel (Ask j k l) (Ask i d n) r s e =
+    let inst : j ≡ i = cc in
+    let number : of_kind k ≡ of_kind d = cc in
+    let label : l ≡ n = cc in
+    let rest : r ≡ s = cc in
+    let kind = one_kind k d number in (λ x. Ask (inst x) (kind x) (label x), rest)
+one_parcel (Ask j k l) (Reply i w) r s e = absurd (omega (arith, same_head _ _ _ _ e))
+one_parcel (Ask j k l) (Decide i w) r s e = absurd (omega (arith, same_head _ _ _ _ e))
+one_parcel (Reply j w) (App l m b) r s e = absurd (omega (arith, same_head _ _ _ _ e))
+one_parcel (Reply j w) (Ask i d n) r s e = absurd (omega (arith, same_head _ _ _ _ e))
+one_parcel (Reply j w) (Reply i v) r s e =
+    let inst : j ≡ i = cc in
+    let number : of_flag w ≡ of_flag v = cc in
+    let rest : r ≡ s = cc in
+    let flag = one_flag w v number in (λ x. Reply (inst x) (flag x), rest)
+one_parcel (Reply j w) (Decide i v) r s e = absurd (omega (arith, same_head _ _ _ _ e))
+one_parcel (Decide j w) (App l m b) r s e = absurd (omega (arith, same_head _ _ _ _ e))
+one_parcel (Decide j w) (Ask i d n) r s e = absurd (omega (arith, same_head _ _ _ _ e))
+one_parcel (Decide j w) (Reply i v) r s e = absurd (omega (arith, same_head _ _ _ _ e))
+one_parcel (Decide j w) (Decide i v) r s e =
+    let inst : j ≡ i = cc in
+    let number : of_flag w ≡ of_flag v = cc in
+    let rest : r ≡ s = cc in
+    let flag = one_flag w v number in (λ x. Decide (inst x) (flag x), rest)
+
+long_list : (xs ys r s : Numbers) → length xs ≡ length ys → xs ++ r ≡ ys ++ s → (xs ≡ ys) × (r ≡ s)
+long_list [] [] r s n e = (refl, e)
+long_list [] (y ∷ ys) r s n e = absurd (omega arith)
+long_list (x ∷ xs) [] r s n e = absurd (omega arith)
+long_list (x ∷ xs) (y ∷ ys) r s n e =
+    let h = same_head _ _ _ _ e in
+    let t = long_list xs ys r s (omega arith) (same_tail _ _ _ _ e) in (λ i. h i ∷ t.0 i, t.1)
+
+pub one_list : IsOneForm of_list
+one_list xs ys r s e = long_list xs ys r s (same_head _ _ _ _ e) (same_tail _ _ _ _ e)
+
+long_flat : {X : Type 0} (f : X → Numbers) → IsOneForm f → (xs ys : List X) (r s : Numbers) → length xs ≡ length ys →
+    flat_map f xs ++ r ≡ flat_map f ys ++ s → (xs ≡ ys) × (r ≡ s)
+long_flat f h [] [] r s n e = (refl, e)
+long_flat f h [] (y ∷ ys) r s n e = absurd (omega arith)
+long_flat f h (x ∷ xs) [] r s n e = absurd (omega arith)
+long_flat f h (x ∷ xs) (y ∷ ys) r s n e =
+    let k = h x y (flat_map f xs ++ r) (flat_map f ys ++ s) (sym (append_assoc (f x) (flat_map f xs) r) ∙ (e ∙ append_assoc (f y) (flat_map f ys) s)) in
+    let t = long_flat f h xs ys r s (omega arith) k.1 in (λ i. k.0 i ∷ t.0 i, t.1)
+
+pub one_counted : {X : Type 0} (f : X → Numbers) → IsOneForm f → IsOneForm (counted f)
+one_counted f h xs ys r s e = long_flat f h xs ys r s (same_head _ _ _ _ e) (same_tail _ _ _ _ e)
+
+-- forms of the numbers below one
+pub one_gather : {X : Type 0} (f : X → Numbers) → IsOneForm f → (n : ℕ) (u v : ℕ → X) (r s : Numbers) →
+    gather n (λ q. f (u q)) ++ r ≡ gather n (λ q. f (v q)) ++ s → ((q : ℕ) → q < n → u q ≡ v q) × (r ≡ s)
+unfolding gather
+one_gather f h zero u v r s e = (λ q b. absurd (omega arith), e)
+one_gather {X} f h (suc n) u v r s e =
+    let front = gather n (λ q. f (u q)) in
+    let other = gather n (λ q. f (v q)) in
+    let t = one_gather f h n u v (f (u n) ++ r) (f (v n) ++ s) (sym (append_assoc front (f (u n)) r) ∙ (e ∙ append_assoc other (f (v n)) s)) in
+    let k = h (u n) (v n) r s t.1 in
+    (λ q b. below_more (λ (p : ℕ). u p ≡ v p) n t.0 k.0 q (omega arith), k.1)

@@ -1,0 +1,131 @@
+-- Nodes with the same numbers are the same, but for room.
+use Rattle.std.specs.Prelude.{Option, Some, None, nat_lt}
+use Rattle.std.proofs.Common.{◌≡◌, ◌∙◌, ◌+◌, ◌<◌, ◌≤◌, ℕ, Bool, true, false, List, [], ◌∷◌, ◌++◌, refl, sym, ap, subst, arith, append_assoc, inl, inr}
+use Rattle.std.proofs.lemmas.Bool.{cases_lt}
+use Rattle.std.proofs.lemmas.Bool.Decides.{nat_tests}
+use Rattle.std.proofs.Math.Path.{fun_ext}
+use Rattle.kt_fifo.specs.Channels.{ChannelLists, channel}
+use Rattle.kt_tables.specs.Peers.{find_label, label_of, LabelTable}
+use Rattle.kt_tables.specs.Calls.{Call}
+use Rattle.kt_tables.specs.States.{State}
+use Rattle.kt_tables.specs.Standing.{TablesStandFor}
+use Rattle.kt_machine.specs.Seen.{SeenProcess}
+use Rattle.kt_process.specs.ProcessStates.{ProcessState, ProcessFits}
+use Rattle.kt_process.specs.Shown.{IsSeenAs}
+use Rattle.kt_node.specs.Nodes.{NodeState}
+use Rattle.kt_node.specs.Managers.{ManagerState, IsSoundManager, lists_to, no_name, ShowsNode, HoldsFor}
+use Rattle.kt_node.specs.Erasing.{erased_parcels}
+use Rattle.kt_node.specs.Links.{NodeLinks, ShowsLinks}
+use Rattle.kt_node.specs.Reaches.{HasReaches}
+use Rattle.kt_node.specs.declared.reach.Reaches.{Reaches}
+use Rattle.kt_node_text.specs.Form.{of_list, counted, of_parcel, of_lists, of_process, of_name, of_manager, of_reaches, numbers_of}
+use Rattle.kt_node_text.specs.Sameness.{IsSound, IsSameState}
+use Rattle.kt_node_text.proofs.OneForm.{Numbers, same_head, same_tail, one_list, one_counted, one_parcel, one_gather}
+use Rattle.kt_node_text.proofs.Parts.{AreSameTables, IsSameProcess, behind, one_name, one_process, one_reaches}
+
+labels_same : (t u : LabelTable) (q x : ℕ) → t.pairs ≡ u.pairs → label_of t q ≡ x → label_of u q ≡ x
+unfolding label_of
+labels_same t u q x e h = sym (ap (λ (ps : List (ℕ × ℕ)). find_label ps q) e) ∙ h
+
+tables_same : (t u : State) (calls : List Call) → AreSameTables t u → t.is_tentative ≡ u.is_tentative → TablesStandFor t calls → TablesStandFor u calls
+tables_same t u calls h e s = record {
+  speaks = s.speaks;
+  keeps = record {
+    is_open = sym e ∙ s.keeps.is_open;
+    last_rcvd = λ q. labels_same _ _ q _ h.last_rcvd (s.keeps.last_rcvd q);
+    first_sent = λ q. labels_same _ _ q _ h.first_sent (s.keeps.first_sent q);
+    kept_rcvd = λ q. labels_same _ _ q _ h.kept_rcvd (s.keeps.kept_rcvd q);
+    kept_sent = λ q. labels_same _ _ q _ h.kept_sent (s.keeps.kept_sent q);
+    last_sent = λ q. labels_same _ _ q _ h.last_sent (s.keeps.last_sent q);
+    last_out = λ q. labels_same _ _ q _ h.last_out (s.keeps.last_out q);
+  };
+}
+
+process_same : (x z : ProcessState) (y : SeenProcess) → IsSameProcess x z → ProcessFits x → ProcessFits z → IsSeenAs x y → IsSeenAs z y
+process_same x z y h f g s = record {
+  stands = tables_same x.tables z.tables y.calls h.tables (f.tentative ∙ (h.side.saving ∙ sym g.tentative)) s.stands;
+  inst = sym h.side.inst ∙ s.inst;
+  part = sym h.side.shown ∙ s.part;
+  up = sym h.up ∙ s.up;
+  used = sym h.used ∙ s.used;
+}
+
+past_all : (w : ChannelLists) (q to : ℕ) → w.processes ≤ q → channel w q to ≡ []
+past_all w q to h = grind (arith, nat_tests)
+
+lists_same : (v w : ChannelLists) (n me : ℕ) → v.processes ≡ n → w.processes ≡ n →
+    ((q : ℕ) → q < n → channel v q me ≡ channel w q me) → lists_to v me ≡ lists_to w me
+lists_same v w n me a b h = fun_ext (λ q. ap (erased_parcels no_name) (elim (cases_lt q n) [
+  | inl less ↦ h q less
+  | inr more ↦ past_all v q me (omega arith) ∙ sym (past_all w q me (omega arith))
+]))
+
+-- two managers, but for room
+record IsSameBut (a b : ManagerState) : Type 0 where
+  size : a.size ≡ b.size
+  me : a.me ≡ b.me
+  begun : a.begun ≡ b.begun
+  inst : a.inst ≡ b.inst
+  process : IsSameProcess a.process b.process
+  held : lists_to a.held a.me ≡ lists_to b.held b.me
+  kept : lists_to a.kept a.me ≡ lists_to b.kept b.me
+
+-- the lists to one process, where numbers and size are the same
+one_lists : (v w : ChannelLists) (m n p q : ℕ) (r s : Numbers) → m ≡ n → p ≡ q → v.processes ≡ m → w.processes ≡ n →
+    of_lists m p v ++ r ≡ of_lists n q w ++ s → (lists_to v p ≡ lists_to w q) × (r ≡ s)
+one_lists v w m n p q r s sizes mes a b e =
+    let e1 : of_lists m p v ++ r ≡ of_lists m p w ++ s = e ∙ (λ i. of_lists (sym sizes i) (sym mes i) w ++ s) in
+    let g = one_gather (counted of_parcel) (one_counted of_parcel one_parcel) m (λ x. channel v x p) (λ x. channel w x p) r s e1 in
+    (lists_same v w m p a (b ∙ sym sizes) g.0 ∙ ap (λ (x : ℕ). lists_to w x) mes, g.1)
+
+one_manager : (a b : ManagerState) (r s : Numbers) → IsSoundManager a → IsSoundManager b → of_manager a ++ r ≡ of_manager b ++ s → IsSameBut a b × (r ≡ s)
+one_manager a b r s f g e =
+    let size : a.size ≡ b.size = same_head _ _ _ _ e in
+    let e1 = same_tail _ _ _ _ e in
+    let me : a.me ≡ b.me = same_head _ _ _ _ e1 in
+    let e2 = same_tail _ _ _ _ e1 in
+    let begun : a.begun ≡ b.begun = same_head _ _ _ _ e2 in
+    let e3 = same_tail _ _ _ _ e2 in
+    let inst = one_name a.inst b.inst _ _ (behind (of_name a.inst) _ r (of_name b.inst) _ s e3) in
+    let process = one_process a.process b.process _ _ (behind (of_process a.process) _ r (of_process b.process) _ s inst.1) in
+    let held = one_lists a.held b.held a.size b.size a.me b.me _ _ size me f.held g.held (behind (of_lists a.size a.me a.held) _ r (of_lists b.size b.me b.held) _ s process.1) in
+    let kept = one_lists a.kept b.kept a.size b.size a.me b.me r s size me f.kept g.kept held.1 in
+    (record { size = size; me = me; begun = begun; inst = inst.0; process = process.0; held = held.0; kept = kept.0 }, kept.1)
+
+shows_same : (a b : ManagerState) (y : NodeState) → IsSameBut a b → ProcessFits a.process → ProcessFits b.process → ShowsNode a y → ShowsNode b y
+shows_same a b y h f g s = record {
+  holds = record {
+    processes = sym h.size ∙ s.holds.processes;
+    me = sym h.me ∙ s.holds.me;
+    begun = sym h.begun ∙ s.holds.begun;
+    held = sym h.held ∙ s.holds.held;
+    kept = sym h.kept ∙ s.holds.kept;
+  };
+  process = process_same a.process b.process _ h.process f g s.process;
+  inst = sym h.inst ∙ s.inst;
+}
+
+pub no_rest : (xs : Numbers) → xs ++ [] ≡ xs
+no_rest [] = refl
+no_rest (x ∷ xs) = ap (λ (l : Numbers). x ∷ l) (no_rest xs)
+
+-- nodes with the same numbers
+pub same_numbers : (w v : NodeLinks) → IsSound w → IsSound v → numbers_of w ≡ numbers_of v → IsSameState w v
+same_numbers w v f g e0 =
+    let e : numbers_of w ++ [] ≡ numbers_of v ++ [] = no_rest (numbers_of w) ∙ (e0 ∙ sym (no_rest (numbers_of v))) in
+    let e1 = same_tail _ _ _ _ e in
+    let clock : w.clock ≡ v.clock = same_head _ _ _ _ e1 in
+    let e2 = same_tail _ _ _ _ e1 in
+    let manager = one_manager w.manager v.manager _ _ f.manager g.manager (behind (of_manager w.manager) _ [] (of_manager v.manager) _ [] e2) in
+    let sent = one_list w.sent v.sent _ _ (behind (of_list w.sent) _ [] (of_list v.sent) _ [] manager.1) in
+    let taken = one_list w.taken v.taken _ _ (behind (of_list w.taken) _ [] (of_list v.taken) _ [] sent.1) in
+    let reach = one_reaches w.reaches v.reaches [] [] taken.1 in record {
+      shows = λ y s. record {
+        manager = shows_same w.manager v.manager y manager.0 f.process g.process s.manager;
+        reaches = subst (λ (x : Reaches). HasReaches x y.calls) reach.0 s.reaches;
+      };
+      clock = sym clock;
+      sent = sym sent.0;
+      taken = sym taken.0;
+      reaches = sym reach.0;
+    }

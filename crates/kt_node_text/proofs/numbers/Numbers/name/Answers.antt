@@ -1,0 +1,49 @@
+use Rattle.std.specs.Prelude.{is_some, Option, Some}
+use Rattle.std.proofs.Common.{◌∷◌, ◌++◌, ◌∙◌, ℕ, sym, subst}
+use Rattle.std.proofs.lemmas.Bool.{false≢true}
+use Rattle.kt_spacetime.specs.Counts.{IsCount}
+use Rattle.kt_spacetime.specs.declared.names.InstName.{InstName}
+use Rattle.kt_node_text.proofs.OneAfterAnother.{stops, name_parts, name_begins, no_name, a_name}
+use Rattle.kt_node_text.proofs.numbers.Numbers.name.Goals as goal
+
+abbrev some_name : ℕ → ℕ → Option InstName
+some_name p n = Some (record { initiator = p; count = n })
+
+pub returns-in_err-flag : goal.returns-in_err-flag
+returns-in_err-flag c = λ o after range e.
+    stops _ _ _ _ _ c.from_residual.ensures.1 (c.in_err-flag.ensures (is_some o) (name_parts o ++ after) (e ∙ name_begins o after))
+
+pub returns-then-not-branch : goal.returns-then-not-branch
+returns-then-not-branch c = λ o after range e.
+    let f = c.in_ok-flag.ensures (is_some o) (name_parts o ++ after) (e ∙ name_begins o after) in
+    no_name o after _ (sym f.0 ∙ c.if-not-branch.true) f.1
+
+pub returns-in_err-initiator : goal.returns-in_err-initiator
+returns-in_err-initiator c = λ o after range e.
+    let f = c.in_ok-flag.ensures (is_some o) (name_parts o ++ after) (e ∙ name_begins o after) in
+    let k = a_name o after _ (sym f.0 ∙ c.if-not-branch.false) range f.1 in
+    stops _ _ _ _ _ c.from_residual-in_err-initiator.ensures.1 (c.in_err-initiator.ensures k.0.initiator (k.0.count ∷ after) k.2.0 k.3)
+
+pub returns-in_err-number : goal.returns-in_err-number
+returns-in_err-number c = λ o after range e.
+    let f = c.in_ok-flag.ensures (is_some o) (name_parts o ++ after) (e ∙ name_begins o after) in
+    let k = a_name o after _ (sym f.0 ∙ c.if-not-branch.false) range f.1 in
+    let p = c.in_ok-initiator.ensures k.0.initiator (k.0.count ∷ after) k.2.0 k.3 in
+    stops _ _ _ _ _ c.from_residual-in_err-number.ensures.1 (c.in_err-number.ensures k.0.count after p.1)
+
+pub returns-in-Some : goal.returns-in-Some
+returns-in-Some c = λ o after range e.
+    let f = c.in_ok-flag.ensures (is_some o) (name_parts o ++ after) (e ∙ name_begins o after) in
+    let k = a_name o after _ (sym f.0 ∙ c.if-not-branch.false) range f.1 in
+    let p = c.in_ok-initiator.ensures k.0.initiator (k.0.count ∷ after) k.2.0 k.3 in
+    let n = c.in_ok-number.ensures k.0.count after p.1 in
+    let count = c.in-Some.ensures.value ∙ n.0 in
+    ((λ i. some_name (p.0 i) (count i)) ∙ k.1, n.1)
+
+pub returns-in-None : goal.returns-in-None
+returns-in-None c = λ o after range e.
+    let f = c.in_ok-flag.ensures (is_some o) (name_parts o ++ after) (e ∙ name_begins o after) in
+    let k = a_name o after _ (sym f.0 ∙ c.if-not-branch.false) range f.1 in
+    let p = c.in_ok-initiator.ensures k.0.initiator (k.0.count ∷ after) k.2.0 k.3 in
+    let n = c.in_ok-number.ensures k.0.count after p.1 in
+    false≢true (c.in-None.ensures.valid.1 (subst IsCount (sym n.0) k.2.1))

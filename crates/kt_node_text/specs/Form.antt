@@ -1,0 +1,112 @@
+-- A node's state as numbers, and numbers as bytes.
+use Rattle.std.specs.Prelude.{ℕ, zero, suc, ◌+◌, ℤ, pos, negsuc, Bool, true, false, Option, Some, None, List, [], ◌∷◌, ◌++◌, length}
+use Rattle.std.specs.List.{flat_map}
+use Rattle.std.specs.Int.{w64, to_le_bytes}
+use Rattle.kt_base.specs.declared.words.Kind.{Kind}
+use Rattle.kt_base.specs.declared.words.Kind.TheVariants.{Checkpoint, Rollback}
+use Rattle.kt_fifo.specs.Channels.{ChannelLists, channel}
+use Rattle.kt_fifo.specs.declared.parcels.Parcel.{Parcel}
+use Rattle.kt_fifo.specs.declared.parcels.Parcel.TheVariants.{App, Ask, Reply, Decide}
+use Rattle.kt_tables.specs.States.{State}
+use Rattle.kt_process.specs.Parts.{Part}
+use Rattle.kt_process.specs.ProcessStates.{ProcessState}
+use Rattle.kt_process.specs.declared.side.Side.{Side}
+use Rattle.kt_process.specs.declared.side.Side.TheVariants as side
+use Rattle.kt_spacetime.specs.declared.names.InstName.{InstName}
+use Rattle.kt_node.specs.declared.reach.Reach.{Reach}
+use Rattle.kt_node.specs.declared.reach.Reaches.{Reaches}
+use Rattle.kt_node.specs.Managers.{ManagerState}
+use Rattle.kt_node.specs.Links.{NodeLinks}
+
+-- each number is eight bytes, the lowest first
+abbrev pub bytes_of : List ℕ → List ℕ
+bytes_of numbers = flat_map (to_le_bytes w64) numbers
+
+-- the version of the form
+abbrev pub version : ℕ
+version = 1
+
+abbrev pub of_flag : Bool → ℕ
+of_flag false = 0
+of_flag true = 1
+
+-- one more than a number, 0 for none
+abbrev pub of_optional : Option ℕ → ℕ
+of_optional None = 0
+of_optional (Some n) = n + 1
+
+-- a list has its length before it
+abbrev pub of_list : List ℕ → List ℕ
+of_list xs = length xs ∷ xs
+
+abbrev pub counted : {X : Type 0} → (X → List ℕ) → List X → List ℕ
+counted f xs = length xs ∷ flat_map f xs
+
+abbrev pub of_pair : ℕ × ℕ → List ℕ
+of_pair x = x.0 ∷ x.1 ∷ []
+
+-- what f has of each number below one, in order
+unfoldable pub gather : ℕ → (ℕ → List ℕ) → List ℕ
+gather zero f = []
+gather (suc n) f = gather n f ++ f n
+
+-- whether a body is negative, and its size
+abbrev pub of_body : ℤ → List ℕ
+of_body (pos n) = 0 ∷ n ∷ []
+of_body (negsuc n) = 1 ∷ (n + 1) ∷ []
+
+abbrev pub of_kind : Kind → ℕ
+of_kind Checkpoint = 0
+of_kind Rollback = 1
+
+abbrev pub of_parcel : Parcel → List ℕ
+of_parcel (App label msg body) = 0 ∷ label ∷ msg ∷ of_body body
+of_parcel (Ask inst kind label) = 1 ∷ inst ∷ of_kind kind ∷ label ∷ []
+of_parcel (Reply inst willing) = 2 ∷ inst ∷ of_flag willing ∷ []
+of_parcel (Decide inst commit) = 3 ∷ inst ∷ of_flag commit ∷ []
+
+-- the lists to one of n processes, by sender
+abbrev pub of_lists : ℕ → ℕ → ChannelLists → List ℕ
+of_lists n to w = gather n (λ q. counted of_parcel (channel w q to))
+
+abbrev pub of_tables : State → List ℕ
+of_tables t = counted of_pair t.last_rcvd.pairs
+    ++ (counted of_pair t.first_sent.pairs
+    ++ (counted of_pair t.kept_rcvd.pairs
+    ++ (counted of_pair t.kept_sent.pairs
+    ++ (counted of_pair t.last_sent.pairs
+    ++ counted of_pair t.last_out.pairs))))
+
+abbrev pub of_part : Part → List ℕ
+of_part p = p.inst ∷ of_optional p.parent ∷ p.asked ∷ p.awaited ∷ of_flag p.willing ∷ []
+
+abbrev pub of_side : Option Side → List ℕ
+of_side None = 0 ∷ []
+of_side (Some (side.Checkpoint s)) = 1 ∷ of_part s.part ++ of_list s.marks
+of_side (Some (side.Rollback s)) = 2 ∷ of_part s.part ++ counted of_pair s.notes.pairs
+
+abbrev pub of_process : ProcessState → List ℕ
+of_process x = x.used ∷ of_flag x.up ∷ of_side x.side ++ of_tables x.tables
+
+abbrev pub of_name : Option InstName → List ℕ
+of_name None = 0 ∷ []
+of_name (Some k) = 1 ∷ k.initiator ∷ k.count ∷ []
+
+abbrev pub of_manager : ManagerState → List ℕ
+of_manager w = w.size ∷ w.me ∷ w.begun ∷ of_name w.inst
+    ++ (of_process w.process
+    ++ (of_lists w.size w.me w.held
+    ++ of_lists w.size w.me w.kept))
+
+abbrev pub of_reach : Reach → List ℕ
+of_reach r = r.sent ∷ of_list r.received
+
+abbrev pub of_reaches : Reaches → List ℕ
+of_reaches r = of_reach r.live ++ (of_reach r.tentative ++ of_reach r.permanent)
+
+-- a node's state as numbers
+abbrev pub numbers_of : NodeLinks → List ℕ
+numbers_of w = version ∷ w.clock ∷ of_manager w.manager
+    ++ (of_list w.sent
+    ++ (of_list w.taken
+    ++ of_reaches w.reaches))

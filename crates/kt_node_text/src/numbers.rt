@@ -1,0 +1,205 @@
+//! Numbers that are read one after another.
+
+ghost use Rattle.std.specs.Prelude.{◌≡◌, ◌≤◌, ◌∷◌, ◌++◌, ℕ, ℤ, Bool, Option, List, All, FitsSigned, IfOk, IfSome};
+ghost use Rattle.std.specs.Int.{w64};
+ghost use Rattle.kt_base.specs.Numbers.{IsProcNo, IsLabel, IsInstNo, IsMsgNo};
+ghost use Rattle.kt_base.specs.declared.words.Kind.{Kind as kinds};
+ghost use Rattle.kt_spacetime.specs.declared.names.InstName.{InstName};
+ghost use Rattle.kt_node_text.specs.Form.{of_flag, of_optional, of_kind, of_body, of_name, of_list, of_pair, counted};
+ghost use Rattle.kt_node_text.specs.Ranges.{IsPair, IsName, IsRow};
+ghost use Rattle.kt_node_text.specs.Reading.{IsRead, IsReadAs};
+
+use crate::fault::LoadFault;
+use kt_base::{InstNo, Kind, Label, MsgNo, ProcNo};
+use kt_spacetime::{Count, InstName};
+use std::alloc::Global;
+
+/// The numbers that are still to be read.
+#[derive(Drop)]
+pub(crate) struct Numbers<'a> {
+    rest: &'a [u64],
+}
+
+impl<'a> Numbers<'a> {
+    /// These numbers.
+    pub(crate) fn new(rest: &'a [u64]) -> Numbers<'a>
+        ensures { result.rest.now ≡ rest.now }
+    {
+        Numbers { rest }
+    }
+
+    /// The next number.
+    pub(crate) fn next(&mut self) -> Result<u64, LoadFault>
+        ensures { (n : ℕ) (after : List ℕ) → self.old.rest.now ≡ n ∷ after →
+            IsRead n after result self.new.rest.now }
+    {
+        match self.rest.split_first() {
+            Some((number, rest)) => {
+                self.rest = rest;
+                Ok(*number)
+            }
+            None => Err(LoadFault::Form),
+        }
+    }
+
+    /// The next number, which is at most this one.
+    pub(crate) fn up_to(&mut self, most: u64) -> Result<u64, LoadFault>
+        ensures most { IfOk result (λ number. number ≤ most) }
+        ensures read { (n : ℕ) (after : List ℕ) → n ≤ most → self.old.rest.now ≡ n ∷ after →
+            IsRead n after result self.new.rest.now }
+    {
+        let number = self.next()?;
+        if number <= most {
+            Ok(number)
+        } else {
+            Err(LoadFault::Form)
+        }
+    }
+
+    /// One of two cases.
+    pub(crate) fn flag(&mut self) -> Result<bool, LoadFault>
+        ensures { (b : Bool) (after : List ℕ) → self.old.rest.now ≡ of_flag b ∷ after →
+            IsRead b after result self.new.rest.now }
+    {
+        Ok(self.up_to(1)? == 1)
+    }
+
+    /// A process.
+    pub(crate) fn process(&mut self) -> Result<ProcNo, LoadFault>
+        ensures { (p : ℕ) (after : List ℕ) → IsProcNo p → self.old.rest.now ≡ p ∷ after →
+            IsRead p after result self.new.rest.now }
+    {
+        let number = self.up_to(63)?;
+        Ok(ProcNo::nth(number as u8))
+    }
+
+    /// A process by one more than its number, or none by 0.
+    pub(crate) fn optional(&mut self) -> Result<Option<ProcNo>, LoadFault>
+        ensures { (o : Option ℕ) (after : List ℕ) → IfSome o IsProcNo →
+            self.old.rest.now ≡ of_optional o ∷ after →
+            IsRead o after result self.new.rest.now }
+    {
+        let number = self.up_to(64)?;
+        if number == 0 {
+            Ok(None)
+        } else {
+            Ok(Some(ProcNo::nth((number - 1) as u8)))
+        }
+    }
+
+    /// A label, 0 for none.
+    pub(crate) fn label(&mut self) -> Result<Label, LoadFault>
+        ensures { (l : ℕ) (after : List ℕ) → IsLabel l → self.old.rest.now ≡ l ∷ after →
+            IsRead l after result self.new.rest.now }
+    {
+        let number = self.next()?;
+        Label::new(number).ok_or(LoadFault::Form)
+    }
+
+    /// An instance, by the number by which a process knows it.
+    pub(crate) fn inst(&mut self) -> Result<InstNo, LoadFault>
+        ensures { (k : ℕ) (after : List ℕ) → IsInstNo k → self.old.rest.now ≡ k ∷ after →
+            IsRead k after result self.new.rest.now }
+    {
+        let number = self.up_to(4096)?;
+        InstNo::new(number as u16).ok_or(LoadFault::Form)
+    }
+
+    /// A message.
+    pub(crate) fn message(&mut self) -> Result<MsgNo, LoadFault>
+        ensures { (m : ℕ) (after : List ℕ) → IsMsgNo m → self.old.rest.now ≡ m ∷ after →
+            IsRead m after result self.new.rest.now }
+    {
+        let number = self.up_to(16_777_216)?;
+        MsgNo::new(number as u32).ok_or(LoadFault::Form)
+    }
+
+    /// A kind of instance.
+    pub(crate) fn kind(&mut self) -> Result<Kind, LoadFault>
+        ensures { (k : kinds) (after : List ℕ) → self.old.rest.now ≡ of_kind k ∷ after →
+            IsRead k after result self.new.rest.now }
+    {
+        match self.up_to(1)? {
+            0 => Ok(Kind::Checkpoint),
+            _ => Ok(Kind::Rollback),
+        }
+    }
+
+    /// A body, after whether it is negative.
+    pub(crate) fn body(&mut self) -> Result<i64, LoadFault>
+        ensures { (b : ℤ) (after : List ℕ) → FitsSigned w64 b →
+            self.old.rest.now ≡ of_body b ++ after → IsRead b after result self.new.rest.now }
+    {
+        let negative = self.flag()?;
+        let size = self.up_to(1 << 63)?;
+        if !negative && size < 1 << 63 {
+            return Ok(size as i64);
+        }
+        if negative && size >= 1 {
+            return Ok(-1 - (size - 1) as i64);
+        }
+        Err(LoadFault::Form)
+    }
+
+    /// The name of an instance, if there is one.
+    pub(crate) fn name(&mut self) -> Result<Option<InstName>, LoadFault>
+        ensures { (o : Option InstName) (after : List ℕ) → IfSome o IsName →
+            self.old.rest.now ≡ of_name o ++ after → IsRead o after result self.new.rest.now }
+    {
+        if !self.flag()? {
+            return Ok(None);
+        }
+        let initiator = self.process()?;
+        let number = self.next()?;
+        match Count::new(number) {
+            Some(count) => Ok(Some(InstName { initiator, count })),
+            None => Err(LoadFault::Form),
+        }
+    }
+
+    /// Pairs of a process and a label, after how many there are.
+    pub(crate) fn pairs(&mut self, alloc: Global) -> Result<Vec<(ProcNo, Label)>, LoadFault>
+        ensures { (xs : List (ℕ × ℕ)) (after : List ℕ) → All IsPair xs →
+            self.old.rest.now ≡ counted of_pair xs ++ after →
+            IsReadAs (λ pairs. pairs.items ≡ xs) after result self.new.rest.now }
+    {
+        let count = self.next()?;
+        let mut pairs = Vec::new(alloc);
+        for _ in 0..count {
+            let process = self.process()?;
+            let label = self.label()?;
+            pairs.push((process, label))?;
+        }
+        Ok(pairs)
+    }
+
+    /// A list of numbers, after how many there are.
+    pub(crate) fn list(&mut self, alloc: Global) -> Result<Vec<usize>, LoadFault>
+        ensures { (xs after : List ℕ) → self.old.rest.now ≡ of_list xs ++ after →
+            IsReadAs (λ list. list.items ≡ xs) after result self.new.rest.now }
+    {
+        let count = self.next()?;
+        let mut list = Vec::new(alloc);
+        for _ in 0..count {
+            let number = self.next()?;
+            list.push(number as usize)?;
+        }
+        Ok(list)
+    }
+
+    /// Sixty-four numbers, after how many there are.
+    pub(crate) fn row(&mut self) -> Result<[u64; 64], LoadFault>
+        ensures { (xs after : List ℕ) → IsRow xs → self.old.rest.now ≡ of_list xs ++ after →
+            IsRead xs after result self.new.rest.now }
+    {
+        let count = self.next()?;
+        if count != 64 || self.rest.len() < 64 {
+            return Err(LoadFault::Form);
+        }
+        let (front, rest) = self.rest.split_at(64);
+        let mut row = [0; 64];
+        row.copy_from_slice(front);
+        self.rest = rest;
+        Ok(row)
+    }
+}

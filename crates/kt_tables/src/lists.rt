@@ -1,0 +1,14 @@
+//! What tables are made of.
+
+use kt_base::{Label, ProcNo};
+
+/// The pairs of a peer and its label of each table of one process, by rising peer.
+#[derive(Clone, Copy)]
+pub struct TableLists<'a> {
+    pub last_rcvd: &'a [(ProcNo, Label)],
+    pub first_sent: &'a [(ProcNo, Label)],
+    pub kept_rcvd: &'a [(ProcNo, Label)],
+    pub kept_sent: &'a [(ProcNo, Label)],
+    pub last_sent: &'a [(ProcNo, Label)],
+    pub last_out: &'a [(ProcNo, Label)],
+}
