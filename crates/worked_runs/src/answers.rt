@@ -5,12 +5,7 @@
 //! `----`.
 
 use crate::commands::{Host, stored, value_of};
-use crate::texts::HEADER;
-use kt_chain::read_certs;
-use kt_checker::check;
-use kt_log_text::read_csv;
 use kt_program::{Done, ProgramFault, check_bytes, end};
-use kt_spacetime::{Certificate, SpaceTime};
 use std::alloc::Global;
 use std::io::{Read, Write};
 use std::{fs, io};
@@ -19,6 +14,9 @@ use std::{fs, io};
 const CERT_MARK: &str = "\n--\n";
 
 const MARK: &str = "\n----\n";
+
+// The record that a text of format 2 begins with.
+const HEADER: &[u8] = b"kt,2,-,-\n";
 
 /// Judges a log and its certificates, as the program tells of it.
 pub(crate) fn judged<L: Read + Drop, C: Read + Drop, W: Write>(
@@ -33,85 +31,18 @@ pub(crate) fn judged<L: Read + Drop, C: Read + Drop, W: Write>(
     }
 }
 
-/// Writes to either stream what the program writes of a log and its certificates; its exit status.
-pub(crate) fn write_answer<L: Read + Drop>(
-    alloc: Global,
-    log: L,
-    cert: &[u8],
-    out: &mut Vec<u8>,
-    err: &mut Vec<u8>,
-) -> u8 {
-    end(judged(alloc, log, cert, out), err)
-}
-
-// The answer to lists of rows and of certificates, as a line.
-fn answer_to(alloc: Global, log: &SpaceTime, certificates: &[Certificate]) -> io::Result<String> {
-    let Ok(verdict) = check(alloc, log, certificates) else {
-        return Err(io::Error::from(io::ErrorKind::Other));
-    };
-    Ok(format!(in alloc; "{verdict}\n")?)
-}
-
-// Whether this line is the answer to a list of rows and the certificates that a text says.
-fn is_answer_to(alloc: Global, log: &SpaceTime, cert: &[u8], line: &[u8]) -> io::Result<bool> {
-    let certificates = value_of(read_certs(alloc, cert))?;
-    let answer = answer_to(alloc, log, certificates.as_slice())?;
-    Ok(answer.as_bytes() == line)
-}
-
-// Whether this line is the answer to the list of rows and the list of certificates that the texts say.
-fn is_answer_to_lists(alloc: Global, log: &[u8], cert: &[u8], line: &[u8]) -> io::Result<bool> {
-    let log = value_of(read_csv(alloc, log))?;
-    is_answer_to(alloc, &log, cert, line)
-}
-
-// What is said of the lists beside an answer; nothing where there is none.
-fn note_of(
-    alloc: Global,
-    log: &[u8],
-    cert: &[u8],
-    status: u8,
-    line: &[u8],
-) -> io::Result<&'static str> {
-    if status > 1 {
-        Ok("")
-    } else if is_answer_to_lists(alloc, log, cert, line)? {
-        Ok(", of lists too")
-    } else {
-        Ok(", of lists otherwise")
-    }
-}
-
-/// Shows an exit status, what was written to either stream, and what is said beside.
-pub(crate) fn show_written<R: Host>(
-    rt: &R,
-    status: u8,
-    out: &[u8],
-    err: &[u8],
-    note: &str,
-) -> io::Result<()> {
+/// Shows an exit status, and what was written to either stream.
+pub(crate) fn show_written<R: Host>(rt: &R, status: u8, out: &[u8], err: &[u8]) -> io::Result<()> {
     let out = value_of(std::str::from_utf8(out))?;
     let err = value_of(std::str::from_utf8(err))?;
-    println!(rt; "{status}, {out:?}, {err:?}{note}")
-}
-
-// Shows what the program writes of a log and its certificates; both streams are kept.
-fn show_kept<R: Host>(
-    rt: &R,
-    log: &[u8],
-    cert: &[u8],
-    out: &mut Vec<u8>,
-    err: &mut Vec<u8>,
-) -> io::Result<()> {
-    let status = write_answer(rt.alloc(), log, cert, out, err);
-    let note = note_of(rt.alloc(), log, cert, status, out.as_slice())?;
-    show_written(rt, status, out.as_slice(), err.as_slice(), note)
+    println!(rt; "{status}, {out:?}, {err:?}")
 }
 
 /// Shows what the program writes of a log and its certificates.
-pub(crate) fn show_answer<R: Host>(rt: &R, log: &[u8], cert: &[u8]) -> io::Result<()> {
-    let alloc = rt.alloc();
-    show_kept(rt, log, cert, &mut Vec::new(alloc), &mut Vec::new(alloc))
+pub(crate) fn show_answer<R: Host, L: Read + Drop>(rt: &R, log: L, cert: &[u8]) -> io::Result<()> {
+    let (mut out, mut err) = (Vec::new(rt.alloc()), Vec::new(rt.alloc()));
+    let status = end(judged(rt.alloc(), log, cert, &mut out), &mut err);
+    show_written(rt, status, out.as_slice(), err.as_slice())
 }
 
 // Shows what the program writes of the texts under a title.

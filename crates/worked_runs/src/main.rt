@@ -1,11 +1,10 @@
-//! Shows what is read from each stored run: its first broken rule, or what its histories are after each row, as both
-//! readers tell it, the checker's answer in both formats, and whether the certificates made of its text are the stored ones.
+//! Shows what is read from each stored run: its first broken rule, or what its histories are after each row, the
+//! checker's answer, and whether the certificates made of its text are the stored ones.
 //! Then plays each scenario that a stored run is of, some in many drawn orders, and runs each in threads, and shows some as pictures. Then
 //! shows what the program writes of other texts and command lines, and of words that are no texts, the line of each fault,
 //! and what comes of a reader that is always interrupted and of the longest logs, and runs the callers that
-//! `docs/CALLING.md` shows. Then shows runs over objects of its own: that can't be saved or brought back, that a plan does
-//! not ask for, and that wait for one another; what is left of them, and what is written, by writers that fail too; worlds
-//! at their limits, and how many parcels instances put. Last, runs the program by readers and writers that fail, and on
+//! `docs/CALLING.md` shows. Then shows what is written of runs over objects that can't be saved or brought back, or that wait
+//! for one another, by writers that fail too; worlds at their limits, and how many parcels instances put. Last, runs the program by readers and writers that fail, and on
 //! command lines over stored files, and ends with the status of the last one.
 #![tactic(auto)]
 
@@ -28,7 +27,6 @@ mod papers;
 mod pictures;
 mod plans;
 mod plays;
-mod readers;
 mod running;
 mod runs;
 mod seeds;
@@ -36,7 +34,6 @@ mod sources;
 mod staged;
 mod stepping;
 mod system_words;
-mod texts;
 mod worlds;
 
 use answers::{show_answers, show_beginnings};
@@ -89,7 +86,9 @@ fn show_callers<R: Host>(rt: &R) -> io::Result<()> {
         "a-busy-process-refuses.steps",
         "a-busy-process-refuses.log.csv",
     )?;
-    show_runs(rt, "counted")
+    show_runs(rt, "counted")?;
+    show_runs(rt, "failure")?;
+    show_runs(rt, "down")
 }
 
 // Shows runs over objects of its own, worlds, and command lines over stored files.

@@ -41,11 +41,6 @@ impl Paper {
         self.taken() == whole.taken()
     }
 
-    /// Whether it was called, and has taken a front part of this text.
-    fn has_part(&self, whole: &Paper) -> bool {
-        self.calls > 0 && whole.taken().starts_with(self.taken())
-    }
-
     // Counts a call.
     fn call(&mut self) -> io::Result<()> {
         let call = self.calls;
@@ -73,7 +68,7 @@ impl Write for Paper {
 }
 
 /// One of the three texts of a run.
-#[derive(Drop)]
+#[derive(Clone, Copy)]
 pub(crate) enum Text {
     Log,
     Certificates,
@@ -99,7 +94,7 @@ impl Papers {
     }
 
     /// Papers of which that of one text fails at this call.
-    pub(crate) fn failing(alloc: Global, text: &Text, call: usize) -> Papers {
+    pub(crate) fn failing(alloc: Global, text: Text, call: usize) -> Papers {
         let mut papers = Papers::whole(alloc);
         match text {
             Text::Log => papers.log.fails_at = call,
@@ -131,25 +126,6 @@ impl Papers {
             println!(rt; "the same texts")
         } else {
             self.show_all(rt)
-        }
-    }
-
-    /// Whether the texts before this one are whole, this one was begun, and those after it were not.
-    pub(crate) fn stop_in(&self, text: &Text, whole: &Papers) -> bool {
-        match text {
-            Text::Log => {
-                self.log.has_part(&whole.log) && self.cert.calls == 0 && self.report.calls == 0
-            }
-            Text::Certificates => {
-                self.log.has_all(&whole.log)
-                    && self.cert.has_part(&whole.cert)
-                    && self.report.calls == 0
-            }
-            Text::Report => {
-                self.log.has_all(&whole.log)
-                    && self.cert.has_all(&whole.cert)
-                    && self.report.has_part(&whole.report)
-            }
         }
     }
 }

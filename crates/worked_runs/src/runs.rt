@@ -3,9 +3,9 @@
 use crate::commands::{Host, stored, value_of};
 use crate::facts::show_facts;
 use crate::made::show_made;
-use crate::texts::{HEADER, show_texts};
 use kt_histories::legal;
 use kt_log_text::read_csv;
+use kt_program::check_bytes;
 use kt_spacetime::SpaceTime;
 use std::io;
 
@@ -20,9 +20,8 @@ fn show_log<R: Host>(rt: &R, log: &SpaceTime) -> io::Result<()> {
 // Shows what a log and its certificates say.
 fn show_run<R: Host>(rt: &R, log: &SpaceTime, text: &[u8], cert: &[u8]) -> io::Result<()> {
     show_log(rt, log)?;
-    show_texts(rt, text, cert)?;
-    show_made(rt, text, cert)?;
-    show_made(rt, text.strip_prefix(HEADER).unwrap_or(text), cert)
+    value_of(check_bytes(rt.alloc(), text, cert, &mut io::writer(rt)))?;
+    show_made(rt, text, cert)
 }
 
 // Shows what the texts of a log and its certificates say.

@@ -1,6 +1,6 @@
 //! Readers that fail, that are interrupted, and of texts that are too long to be stored.
 
-use crate::answers::{show_written, write_answer};
+use crate::answers::show_answer;
 use crate::commands::Host;
 use kt_program::{Done, ProgramFault, end, read_scenario};
 use std::alloc::Global;
@@ -110,11 +110,8 @@ fn show_rows<R: Host>(rt: &R, times: u32) -> io::Result<()> {
         row: b"refused,0,send,down\n",
         times,
     };
-    let mut out = Vec::new(rt.alloc());
-    let mut err = Vec::new(rt.alloc());
-    let status = write_answer(rt.alloc(), log, b"", &mut out, &mut err);
     print!(rt; "a row and {times} more: ")?;
-    show_written(rt, status, out.as_slice(), err.as_slice(), "")
+    show_answer(rt, log, b"")
 }
 
 /// Shows what comes of a reader that is interrupted at each call, and of the longest log of format 2 and of one longer.

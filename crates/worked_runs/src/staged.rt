@@ -16,8 +16,6 @@ const TURNS: u32 = 100_000_000;
 pub(crate) enum Trouble {
     /// Nothing.
     Absent,
-    /// It is a last number.
-    Last,
     /// Its save with this number, counted from 1, answers this.
     Save(u64, SaveFault),
     /// Its restore with this number, counted from 1, answers this.
@@ -29,11 +27,10 @@ pub(crate) enum Trouble {
 }
 
 impl Trouble {
-    /// The trouble that words say: `last`, `apply`, `offer`, or `save` or `restore`, at which such call, and what that
+    /// The trouble that words say: `apply`, `offer`, or `save` or `restore`, at which such call, and what that
     /// answers.
     pub(crate) fn of_words(call: &str, at: u64, answer: &str) -> Trouble {
         match (call, answer) {
-            ("last", _) => Trouble::Last,
             ("apply", _) => Trouble::Apply,
             ("offer", _) => Trouble::Offer,
             ("save", "unable") => Trouble::Save(at, SaveFault::Unable),

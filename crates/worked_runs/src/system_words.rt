@@ -81,7 +81,7 @@ where
         &mut out,
         &mut err,
     );
-    show_written(rt, status, out.as_slice(), err.as_slice(), "")
+    show_written(rt, status, out.as_slice(), err.as_slice())
 }
 
 /// Shows what the program writes, called with such words, and with such an environment.
