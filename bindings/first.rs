@@ -42,3 +42,8 @@ fn main() {
     println!("{:?}", check(log, b"cert,1,checkpoint,1,commit\nmember,1,1,0,-\n"));
     println!("{:?}", check(log, b"cert,1\n"));
 }
+
+/* It prints:
+Ok(Some(Answer { why: 6, rule: 0, inst: 1, row: 5, process: 0 }))
+Err(Fault { text: 2, what: 4, place: 1, rule: 0, inst: 0, process: 0 })
+*/

@@ -1,12 +1,12 @@
-/* The checker of koo_toueg for C and C++: logs of checkpoints and rollbacks judged in memory.
+/* koo_toueg for C and C++: logs of checkpoints and rollbacks judged in memory; and nodes, each the manager of one process.
  *
  * Texts are bytes in memory, in the formats of docs/LOGS.md. Each call reads the texts that it is given and writes what its
  * last parameters point to. All of that is the caller's: the library keeps nothing between calls, hands out no memory, opens
  * no file, and calls nobody back. Threads may call it at the same time, each with variables and buffers of its own.
  *
  * Lengths and sizes are in bytes. A pointer is never null, also where its length is 0: give the address of anything, as "".
- * What a call writes overlaps nothing else that it is given. A kt_answer, a kt_fault, a kt_text and a size_t lie at addresses that fit
- * their types. Memory comes from malloc, realloc and free of the program, so no call may come from a signal handler.
+ * What a call writes overlaps nothing else that it is given. Structs and a size_t lie at addresses that fit their types.
+ * Memory comes from malloc, realloc and free of the program, so no call may come from a signal handler.
  *
  * docs/EMBEDDING.md has callers in C, Rust and Python.
  */
@@ -21,16 +21,16 @@ extern "C" {
 #endif
 
 /* The version of this header: kt_version() answers it. */
-#define KT_VERSION 1
+#define KT_VERSION 2
 
 /* What a call returns. */
 enum kt_status {
-    KT_YES = 0,     /* an answer that is yes; a text that was made */
-    KT_NO = 1,      /* an answer that is no; a log that has no certificates */
-    KT_REFUSED = 2, /* a fault of a text, or of the rows that are asked for */
+    KT_YES = 0,     /* an answer that is yes; a text or a node that was made; a step that was made */
+    KT_NO = 1,      /* an answer that is no; a log that has no certificates; a parcel that came before */
+    KT_REFUSED = 2, /* a fault of a text, or of the rows that are asked for; an input that a node refuses */
     KT_UNREAD = 3,  /* a text that could not be read; bytes in memory always can */
     KT_MEMORY = 4,  /* want of memory */
-    KT_SHORT = 5    /* a buffer that is too short for its text */
+    KT_SHORT = 5    /* a buffer that is too short for its text or its node */
 };
 
 /* Why an answer is no. */
@@ -103,10 +103,140 @@ typedef struct kt_text {
     size_t len;
 } kt_text;
 
+/* What a parcel is. */
+enum kt_parcel_kind {
+    KT_PARCEL_NONE = 0,
+    KT_PARCEL_MESSAGE = 1,
+    KT_PARCEL_ASK = 2,     /* whether the receiver takes part in the instance */
+    KT_PARCEL_REPLY = 3,   /* the answer to it */
+    KT_PARCEL_DECISION = 4 /* how the instance was decided */
+};
+
+/* A parcel, as it has to travel, whole, from the node that put it to the one that it is for. A number is 0 where nothing is named, and
+ * where it says no. Its bytes may travel as they are between machines of one byte order. */
+typedef struct kt_parcel {
+    uint32_t kind;      /* of enum kt_parcel_kind */
+    uint32_t initiator; /* who began the instance, 0 to 63 */
+    uint32_t rollback;  /* of an ask: the instance is a rollback */
+    uint32_t yes;       /* of a reply: willing; of a decision: commit */
+    uint64_t number;    /* which one of those from this sender to this receiver, from 1 */
+    uint64_t clock;     /* of the step that put it */
+    uint64_t count;     /* which one of those that its initiator began the instance is, 1 to 2^48 - 1 */
+    uint64_t label;     /* of a message, 1 to 2^48 - 1; of an ask, where it may be 0 */
+    int64_t body;       /* of a message: its caller's */
+} kt_parcel;
+
+/* What comes to a node. */
+enum kt_input_kind {
+    KT_SEND = 1,      /* it is to send a message with body to peer, which is out where there is a parcel for peer */
+    KT_BEGIN = 2,     /* it is to begin an instance: a rollback or a checkpoint, where the object is able or not */
+    KT_FAIL = 3,      /* its object failed */
+    KT_REDELIVER = 4, /* it is to take the first message that it holds of peer */
+    KT_DELIVER = 5    /* a parcel of peer comes, where the object is able or not */
+};
+
+/* An input of a node. What its kind does not name is not read. */
+typedef struct kt_input {
+    uint32_t kind;     /* of enum kt_input_kind */
+    uint32_t peer;     /* a process, 0 to 63 */
+    uint32_t rollback; /* 0 for a checkpoint */
+    uint32_t able;     /* whether the object was saved; 0 for no. It counts where kt_node_look says that it has to be */
+    int64_t body;
+    kt_parcel parcel;
+} kt_input;
+
+/* What a row says. */
+enum kt_row_kind {
+    KT_ROW_NONE = 0,
+    KT_ROW_SENT = 1,
+    KT_ROW_RECEIVED = 2,
+    KT_ROW_DROPPED = 3,
+    KT_ROW_BEGAN = 4,
+    KT_ROW_TOOK = 5,
+    KT_ROW_READY = 6,
+    KT_ROW_UNWILLING = 7,
+    KT_ROW_DECIDED = 8,
+    KT_ROW_CLOSED = 9,
+    KT_ROW_FAILED = 10,
+    KT_ROW_REFUSED = 11
+};
+
+/* A row of a process: kt_row_text makes its line. A number is 0 where nothing is named, and where it says no. */
+typedef struct kt_row {
+    uint32_t kind;           /* of enum kt_row_kind */
+    uint32_t peer;           /* of a message: its receiver where it was sent, else its sender, 0 to 63 */
+    uint32_t initiator;      /* who began the instance, 0 to 63 */
+    uint32_t rollback;       /* of an instance that it began */
+    uint32_t commit;         /* of a decision */
+    uint32_t verb;           /* of a command that it refused: 1 to send, 2 a checkpoint, 3 a rollback, 4 to fail */
+    uint32_t cause;          /* why it refused or is unwilling: 1 it is in another instance, 2 its object is down, 3 that was not saved */
+    uint32_t busy_initiator; /* who began the instance that it is in, 0 to 63 */
+    uint64_t count;          /* which one of those of its initiator the instance is, 1 to 2^48 - 1 */
+    uint64_t busy_count;     /* the same of the instance that it is in */
+    uint64_t label;          /* of a message: which one of those of its sender, 1 to 2^48 - 1 */
+    int64_t body;            /* of a message that it sent */
+} kt_row;
+
+/* What has to be done to the object of a process. */
+enum kt_act_kind {
+    KT_ACT_NONE = 0,
+    KT_APPLY = 1,   /* it takes in a message: the body, of this sender */
+    KT_KEEP = 2,    /* what was saved of it before the step becomes its tentative state */
+    KT_PROMOTE = 3, /* its tentative state becomes its permanent one, in whose place it comes */
+    KT_DISCARD = 4, /* its tentative state goes */
+    KT_RESTORE = 5, /* it becomes what its permanent state is; before the first KT_PROMOTE that is its first one */
+    KT_DROP = 6     /* it is gone, and down */
+};
+
+typedef struct kt_act {
+    uint32_t kind; /* of enum kt_act_kind */
+    uint32_t from; /* of KT_APPLY, 0 to 63 */
+    int64_t body;  /* of KT_APPLY */
+} kt_act;
+
+/* Why a node makes no step. */
+enum kt_node_fault {
+    KT_NODE_WELL = 0,
+    KT_NODE_STATE = 1,          /* the bytes are those of no node */
+    KT_NODE_INPUT = 2,          /* a number of the input is out of its range */
+    KT_NODE_UNKNOWN = 3,        /* the other process is none of those that there are */
+    KT_NODE_ITSELF = 4,         /* the other process is itself */
+    KT_NODE_WAITS = 5,          /* it is in an open instance, and a send has to wait: give it again later */
+    KT_NODE_HELD_FIRST = 6,     /* it holds a message of this sender that comes before: give it KT_REDELIVER first */
+    KT_NODE_HOLDS_NONE = 7,     /* it holds no message of this sender that it could take now */
+    KT_NODE_LABELS_SPENT = 8,   /* it sent 2^48 - 1 messages */
+    KT_NODE_COUNTS_SPENT = 9,   /* it began 2^48 - 1 instances */
+    KT_NODE_CLOCK_SPENT = 10,   /* no clock follows */
+    KT_NODE_GAP = 11,           /* parcels of this sender are missing: the next one is the one that is expected */
+    KT_NODE_OUT_OF_MEMORY = 12
+};
+
+/* The words of enum kt_node_fault, by number. */
+#define KT_NODE_WORDS {"", "state", "input", "unknown", "itself", "waits", "held first", "holds none", "labels spent", "counts spent", \
+    "clock spent", "gap", "memory"}
+
+/* What a node's step puts out. A number is 0 where nothing is named: where no step was made all but fault, expected and needed are. */
+typedef struct kt_output {
+    uint32_t fault;         /* of enum kt_node_fault */
+    uint32_t process;       /* which process the node is of, 0 to 63 */
+    uint32_t processes;     /* how many there are */
+    uint32_t held;          /* one more than the process whose first held message it can take now: the next input is KT_REDELIVER of it */
+    uint32_t busy;          /* it is in an open instance now */
+    uint32_t up;            /* its object is up now */
+    uint64_t expected;      /* of KT_NODE_GAP: the number of the parcel that has to come first */
+    uint64_t needed;        /* of KT_SHORT: how many bytes the state needs */
+    uint64_t clock;         /* of the step */
+    kt_row rows[4];         /* what it tells, in order; those of kind 0 say nothing */
+    kt_act acts[2];         /* what has to be done to its object, in order; those of kind 0 are nothing */
+    kt_parcel parcels[64];  /* by receiver; those of kind 0 are none */
+} kt_output;
+
 #if defined(__cplusplus) && __cplusplus >= 201103L
-static_assert(sizeof(kt_answer) == 20 && sizeof(kt_fault) == 24, "as the library has them");
+static_assert(sizeof(kt_answer) == 20 && sizeof(kt_fault) == 24 && sizeof(kt_parcel) == 56 && sizeof(kt_input) == 80
+                  && sizeof(kt_row) == 64 && sizeof(kt_act) == 16 && sizeof(kt_output) == 3920, "as the library has them");
 #elif defined(__STDC_VERSION__) && __STDC_VERSION__ >= 201112L
-_Static_assert(sizeof(kt_answer) == 20 && sizeof(kt_fault) == 24, "as the library has them");
+_Static_assert(sizeof(kt_answer) == 20 && sizeof(kt_fault) == 24 && sizeof(kt_parcel) == 56 && sizeof(kt_input) == 80
+                   && sizeof(kt_row) == 64 && sizeof(kt_act) == 16 && sizeof(kt_output) == 3920, "as the library has them");
 #endif
 
 /* Judges a log with its certificates, as `koo_toueg check LOG CERT`. KT_YES or KT_NO: *answer says why, *fault is all 0. Else
@@ -140,11 +270,38 @@ uint32_t kt_draw(const uint8_t *log, size_t log_len, const uint8_t *certificates
  * first wrong in the order of the log. */
 uint32_t kt_merge(const kt_text *parts, size_t count, uint8_t *out, size_t out_size, size_t *len, kt_fault *fault);
 
+/* A node is the manager of one process, as bytes. What comes in is a command or a parcel of another node; what goes out are rows, acts and
+ * parcels. Before any parcel of a step goes out, and before what was taken is acknowledged, all this is durable together: the
+ * node's bytes after the step, its rows, its acts, and the parcels that it put until they are acknowledged. Who starts again after it was
+ * killed goes on from there, gives its node KT_FAIL, since its object is gone, and at once KT_BEGIN of a rollback: a message that is
+ * taken before that is dropped. In an open instance that is a row KT_ROW_REFUSED, and a rollback may abort: where an output says neither
+ * busy nor up, KT_BEGIN of another one comes next. Who keeps the object itself with each step needs none of this: it did not fail.
+ */
+
+/* Makes the node of process me of so many, at most 64, which is up and has done nothing. KT_YES: state begins with it, and *len is its
+ * length. KT_SHORT: *len is the length that it needs. KT_REFUSED: there is no such process. Without a node state is as it was, and
+ * *len is 0 but for KT_SHORT. */
+uint32_t kt_node_new(uint32_t me, uint32_t processes, uint8_t *state, size_t state_size, size_t *len);
+
+/* Gives a node an input. The first *len bytes of state are the node, before and after. KT_YES: it made the step, and *output is what this
+ * puts out. KT_NO: the parcel came before, and changes nothing: acknowledge it. KT_REFUSED, KT_MEMORY: *output says why. KT_SHORT: state
+ * has no room for the node after the step, and output->needed is what it needs. But for KT_YES the node is as it was. */
+uint32_t kt_node_step(uint8_t *state, size_t state_size, size_t *len, const kt_input *input, kt_output *output);
+
+/* Whether the object has to be saved before a node is given an input. KT_YES: it has to; where it can't be, the input is given with able 0.
+ * KT_NO: it need not be. KT_REFUSED: the input makes no step, or came before, which kt_node_step tells. */
+uint32_t kt_node_look(const uint8_t *state, size_t len, const kt_input *input);
+
+/* Makes the line of a row in the part of its process, with the clock of its step: what kt_merge reads. KT_YES: out begins with the
+ * line, and *len is its length. KT_SHORT: out is as it was, and *len is the length that it needs; 200 bytes are always enough.
+ * KT_REFUSED: it is no row, or no process. */
+uint32_t kt_row_text(const kt_row *row, uint64_t clock, uint32_t process, uint8_t *out, size_t out_size, size_t *len);
+
 /* The version of the library's calls. It rises where a call, a struct or a number changes its meaning. */
 uint32_t kt_version(void);
 
-/* Writes sizeof(kt_answer), sizeof(kt_fault) and sizeof(size_t), and returns how many sizes there are, 3; where count is less, it
- * writes none. */
+/* Writes the sizes of kt_answer, kt_fault, size_t, kt_parcel, kt_input, kt_row, kt_act and kt_output, and returns how many there are, 8;
+ * where count is less, it writes none. */
 uint32_t kt_sizes(uint32_t *sizes, size_t count);
 
 #ifdef __cplusplus

@@ -224,9 +224,12 @@ static void read_calls(const char *name) {
 }
 
 static void tell_layout(void) {
-    uint32_t sizes[3];
-    if (kt_version() != KT_VERSION || kt_sizes(sizes, 3) != 3) stop("another version");
-    if (sizes[0] != sizeof(kt_answer) || sizes[1] != sizeof(kt_fault) || sizes[2] != sizeof(size_t)) stop("other sizes");
+    const size_t known[8] = {sizeof(kt_answer), sizeof(kt_fault), sizeof(size_t), sizeof(kt_parcel),
+                             sizeof(kt_input), sizeof(kt_row), sizeof(kt_act), sizeof(kt_output)};
+    uint32_t sizes[8];
+    if (kt_version() != KT_VERSION || kt_sizes(sizes, 8) != 8) stop("another version");
+    for (size_t i = 0; i < 8; i++)
+        if (sizes[i] != known[i]) stop("other sizes");
 }
 
 int main(int count, char **words) {

@@ -1,3 +1,4 @@
 mod Refusals
 mod Exactly
+mod Loaded
 pub mod PartReaders

@@ -26,9 +26,9 @@ use Rattle.koo_toueg_c.specs.declared.fault.Fault.{Fault}
 use Rattle.koo_toueg_c.specs.declared.fault.Fault.TheVariants.{Log, Certificates, Picture, Memory}
 use Rattle.koo_toueg_c.specs.declared.fault.KtFault.{KtFault}
 
--- the sizes, in bytes, of an answer, a fault and a length
+-- the sizes, in bytes, of an answer, a fault and a length, and of a node's parcel, input, row, act and output
 abbrev pub struct_sizes : List ℕ
-struct_sizes = 20 ∷ 24 ∷ 8 ∷ []
+struct_sizes = 20 ∷ 24 ∷ 8 ∷ 56 ∷ 80 ∷ 64 ∷ 16 ∷ 3920 ∷ []
 
 -- 0 for a number that is not named
 abbrev pub or_zero : Option ℕ → ℕ

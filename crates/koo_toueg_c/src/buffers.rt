@@ -1,13 +1,27 @@
 //! Texts put into buffers that callers lend.
 
 ghost use Rattle.std.specs.Prelude.{◌≡◌, ◌≢◌, ◌≤◌};
-ghost use Rattle.koo_toueg_c.specs.Buffers.{IsGiven, IsTooLong};
+ghost use Rattle.koo_toueg_c.specs.Buffers.{IsGiven, IsLeft, IsPut, IsTooLong};
 ghost use Rattle.koo_toueg_c.specs.Numbers.{TellsFault};
 
 use crate::fault::{Fault, KtFault};
 
 /// The status of a text that does not fit into the buffer that was lent for it.
 const TOO_SHORT: u32 = 5;
+
+/// Puts bytes at the front of a buffer, and tells their length. It answers 0; or 5, where the buffer is too short, and leaves
+/// the buffer as it was.
+pub(crate) fn put(bytes: &[u8], out: &mut [u8], len: &mut usize) -> u32
+    ensures put { result ≡ 0 → IsPut bytes.now out.old out.new len.new }
+    ensures short { result ≢ 0 → (result ≡ 5) × IsLeft bytes.now out.old out.new len.new }
+{
+    *len = bytes.len();
+    if bytes.len() > out.len() {
+        return TOO_SHORT;
+    }
+    out[..bytes.len()].copy_from_slice(bytes);
+    0
+}
 
 /// Puts a text at the front of a buffer, and tells its length, and no fault. It answers this status; or 5, where the buffer is
 /// too short, and leaves the buffer as it was.
@@ -22,12 +36,10 @@ pub(crate) fn give(
     ensures status { result ≢ 5 → result ≡ status }
     ensures short { status ≢ 5 → result ≡ 5 → IsTooLong text.now out.old out.new len.new fault.new }
 {
-    *len = text.len();
     *fault = KtFault::none();
-    if text.len() > out.len() {
+    if put(text, out, len) == TOO_SHORT {
         return TOO_SHORT;
     }
-    out[..text.len()].copy_from_slice(text);
     status
 }
 

@@ -3,9 +3,12 @@
 //! A call gives what a crate below answers, in numbers and in a buffer that its caller lends. It keeps nothing, calls nobody
 //! back, and leaves nothing to be given back. `include/koo_toueg.h` declares the calls for C.
 //!
+//! A node is bytes, too: `kt_node_step` leads from those of one state to those of the next one.
+//!
 //! **What to change where:** answers in numbers `answer.rt`, faults `fault.rt`, both as `specs/Numbers`; answers `judging.rt`,
 //! texts `texts.rt`, how stored texts are read `reading.rt`, all three as `specs/Stored`; one log of many `merging.rt`, as
-//! `specs/Merged`; buffers `buffers.rt`, as `specs/Buffers`; the version and sizes `about.rt`.
+//! `specs/Merged`; buffers `buffers.rt`, as `specs/Buffers`; nodes `node.rt`, their numbers in the files of
+//! `node/`, as `specs/NodeNumbers`, and what their bytes say `specs/Nodes`; the version and sizes `about.rt`.
 #![tactic(auto)]
 
 mod about;
@@ -14,6 +17,7 @@ mod buffers;
 mod fault;
 mod judging;
 mod merging;
+mod node;
 mod reading;
 #[cfg(test)]
 mod tests;

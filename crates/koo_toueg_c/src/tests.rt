@@ -115,8 +115,8 @@ fn merges(rt: HostRuntime) {
 
 #[test]
 fn tells_sizes(rt: HostRuntime) {
-    let mut sizes = [0; 4];
-    assert!(rt; kt_sizes(&mut sizes[..2]) == 3 && sizes[0] == 0);
-    assert!(rt; kt_sizes(&mut sizes) == 3 && sizes == [20, 24, 8, 0]);
-    assert!(rt; kt_version() == 1);
+    let mut sizes = [0; 9];
+    assert!(rt; kt_sizes(&mut sizes[..7]) == 8 && sizes[0] == 0);
+    assert!(rt; kt_sizes(&mut sizes) == 8 && sizes == [20, 24, 8, 56, 80, 64, 16, 3920, 0]);
+    assert!(rt; kt_version() == 2);
 }

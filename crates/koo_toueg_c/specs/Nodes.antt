@@ -1,0 +1,200 @@
+-- A node that is bytes: the states that they say, and how an input leads from one to the next one.
+use Rattle.std.specs.Prelude.{◌≡◌, ◌<◌, ◌≤◌, ◌+◌, ◌-◌, ◌^◌, ℕ, max, Bool, true, false, Option, Some, None, is_some, Err, List, [], ◌∷◌, length, map, slice_get, slice_index}
+use Rattle.kt_tables.specs.Calls.{Speaks}
+use Rattle.kt_meaning.specs.Past.{at_one}
+use Rattle.kt_text.specs.Writing.{text_of}
+use Rattle.kt_node.specs.Nodes.{NodeState, Doing, is_in_rollback}
+use Rattle.kt_node.specs.NodeSteps.{node_after}
+use Rattle.kt_node.specs.Nets.{opening_net, has_some}
+use Rattle.kt_node.specs.declared.parcels.NodeParcel.{NodeParcel}
+use Rattle.kt_system.specs.ShownActs.{acts_shown}
+use Rattle.kt_merge.specs.Spelling.{part_spelling}
+use Rattle.kt_spacetime.specs.declared.named_rows.ClockedRow.{ClockedRow}
+use Rattle.kt_node.specs.Managers.{ShowsNode}
+use Rattle.kt_node.specs.Effects.{put_to, rows_told}
+use Rattle.kt_node.specs.Faults.{fault_at}
+use Rattle.kt_node.specs.Links.{NodeLinks, ShowsLinks, IsParcelRefusedAs}
+use Rattle.kt_node.specs.Looks.{clock_of, input_of, node_look}
+use Rattle.kt_node.specs.declared.inputs.Input.{Input}
+use Rattle.kt_node.specs.declared.inputs.Input.TheVariants.{Send, Begin, Fail, Redeliver, Deliver}
+use Rattle.kt_node.specs.declared.node.Envelope.{Envelope}
+use Rattle.kt_node.specs.declared.node.NodeFault.{NodeFault}
+use Rattle.kt_node.specs.declared.node.NodeFault.TheVariants as fault
+use Rattle.kt_node.specs.declared.node.Output.{Output}
+use Rattle.kt_node.specs.declared.node.Taken.{Taken}
+use Rattle.kt_node.specs.declared.node.Taken.TheVariants.{Step, Again}
+use Rattle.kt_node_text.specs.Form.{bytes_of, numbers_of}
+use Rattle.kt_node_text.specs.Sameness.{IsSound}
+use Rattle.koo_toueg_c.specs.NodeNumbers.{act_numbers, input_meant, look_status, of_truth, parcel_numbers, part_row_meant, row_numbers, truth_meant}
+use Rattle.koo_toueg_c.specs.declared.node.input.KtInput.{KtInput}
+use Rattle.koo_toueg_c.specs.declared.node.output.KtOutput.{KtOutput}
+use Rattle.koo_toueg_c.specs.declared.node.refusal.Refusal.{Refusal}
+use Rattle.koo_toueg_c.specs.declared.node.refusal.Refusal.TheVariants as refusal
+use Rattle.koo_toueg_c.specs.declared.node.row.KtRow.{KtRow}
+use Rattle.koo_toueg_c.specs.declared.node.stepping.Step.{Step as StepMade}
+
+-- bytes are those of a node
+pub record SaysNode (bytes : List ℕ) (w : NodeLinks) : Type 0 where
+  pub sound : IsSound w
+  pub said : bytes ≡ bytes_of (numbers_of w)
+
+-- and so they say whatever state that node is
+pub record SaysState (bytes : List ℕ) (y : NodeState) : Type 0 where
+  pub node : NodeLinks
+  pub says : SaysNode bytes node
+  pub shows : ShowsLinks node y
+
+-- bytes say the node of a process among so many that has done nothing
+pub record SaysNewNode (me processes : ℕ) (bytes : List ℕ) : Type 0 where
+  pub there : (me < processes) × (processes ≤ 64)
+  pub state : SaysState bytes ((opening_net processes 0).nodes me)
+
+-- why there is no such node; nothing is said of want of memory
+abbrev pub IsNoNewNode : ℕ → ℕ → Refusal → Type 0
+IsNoNewNode me processes refusal.Input = (me < processes) × (processes ≤ 64) → ⊥
+IsNoNewNode me processes refusal.Memory = Unit {0}
+IsNoNewNode me processes refusal.State = ⊥
+IsNoNewNode me processes (refusal.Node f) = ⊥
+
+-- what was taken of each process after a step: the next parcel of one, where it takes a parcel
+abbrev pub TakesOne : NodeLinks → NodeLinks → Input → Type 0
+TakesOne old new (Deliver from e) = (e.number ≡ slice_index old.taken from + 1)
+    × ((q : ℕ) → slice_index new.taken q ≡ at_one from e.number (slice_index old.taken) q)
+TakesOne old new (Send to body) = new.taken ≡ old.taken
+TakesOne old new (Begin kind) = new.taken ≡ old.taken
+TakesOne old new Fail = new.taken ≡ old.taken
+TakesOne old new (Redeliver from) = new.taken ≡ old.taken
+
+-- an input is a parcel that came before
+abbrev pub IsEarlier : NodeLinks → Input → Type 0
+IsEarlier w (Deliver from e) = e.number ≤ slice_index w.taken from
+IsEarlier w (Send to body) = ⊥
+IsEarlier w (Begin kind) = ⊥
+IsEarlier w Fail = ⊥
+IsEarlier w (Redeliver from) = ⊥
+
+-- an input makes a step, in order, or came before
+abbrev pub TakesInOrder : NodeLinks → NodeLinks → Input → Taken → Type 0
+TakesInOrder old new x (Step out) = TakesOne old new x
+TakesInOrder old new x Again = IsEarlier old x
+
+-- a parcel comes too early: this one of its sender is the next one
+abbrev pub IsGapAt : NodeLinks → Input → ℕ → Type 0
+IsGapAt w (Deliver from e) n = (n ≡ slice_index w.taken from + 1) × (n < e.number)
+IsGapAt w (Send to body) n = ⊥
+IsGapAt w (Begin kind) n = ⊥
+IsGapAt w Fail n = ⊥
+IsGapAt w (Redeliver from) n = ⊥
+
+-- what the rule does at an input, where its object can be saved or not
+abbrev pub rule_at : NodeState → Bool → Input → Doing
+rule_at y able x = node_after y (input_of able x)
+
+-- what a step puts out is what the rule does
+pub record PutsOut (out : Output) (d : Doing) : Type 0 where
+  pub rows : rows_told out.effects.rows ≡ d.rows
+  pub acts : acts_shown out.effects.acts ≡ d.acts
+  pub parcels : (q : ℕ) → put_to out.effects.parcels q ≡ d.puts q
+
+-- the next clock, and the next numbers of what is put and taken
+pub record IsNextOf (old new : NodeLinks) (x : Input) (d : Doing) (out : Output) : Type 0 where
+  pub clock : new.clock ≡ max old.clock (clock_of x) + 1
+  pub told : out.clock ≡ new.clock
+  pub sent : (q : ℕ) → q < 64 → slice_index new.sent q ≡ slice_index old.sent q + length (d.puts q)
+  pub numbers : out.numbers ≡ new.sent
+  pub taken : TakesOne old new x
+
+-- bytes say what the rule makes of a state that bytes said, and that is put out
+pub record IsMadeOf (before : List ℕ) (x : Input) (d : Doing) (after : List ℕ) (out : Output) : Type 0 where
+  pub state : SaysState after d.state
+  pub puts : PutsOut out d
+  pub links : (w : NodeLinks) → SaysNode before w → (v : NodeLinks) × SaysNode after v × IsNextOf w v x d out
+
+-- so it is of whatever state they said
+abbrev pub IsRuleOf : List ℕ → Bool → Input → List ℕ → Output → Type 0
+IsRuleOf before able x after out = (y : NodeState) → SaysState before y → Speaks ((rule_at y able x).state.calls) →
+    IsMadeOf before x (rule_at y able x) after out
+
+-- the step of a node that bytes say, at the input that numbers mean
+pub record IsStepOf (before : List ℕ) (numbers : KtInput) (after : List ℕ) (out : Output) : Type 0 where
+  pub x : Input
+  pub meant : input_meant numbers ≡ Some x
+  pub rule : IsRuleOf before (truth_meant numbers.able) x after out
+
+-- what a node holds that it could take now: something of this process, or nothing
+abbrev pub HoldsOf : NodeLinks → ℕ → Type 0
+HoldsOf w q = (y : NodeState) → ShowsNode w.manager y →
+    (is_in_rollback y ≡ false) × (has_some (y.held q) ≡ true)
+
+abbrev pub HoldsNone : NodeLinks → Type 0
+HoldsNone w = (y : NodeState) (q : ℕ) → ShowsNode w.manager y →
+    is_in_rollback y ≡ false → has_some (y.held q) ≡ false
+
+-- the parcel for a process, as it travels
+abbrev pub parcel_for : Output → ℕ → Option Envelope
+parcel_for out q = first_of out (slice_index out.numbers q) (put_to out.effects.parcels q)
+  where
+    first_of : Output → ℕ → List NodeParcel → Option Envelope
+    first_of out n [] = None
+    first_of out n (parcel ∷ rest) = Some (record { number = n; clock = out.clock; parcel = parcel })
+
+-- what a step puts out, and how its node stands by then, in numbers
+pub record TellsOutput (w : NodeLinks) (out : Output) (told : KtOutput) : Type 0 where
+  pub well : (told.fault ≡ 0) × (told.expected ≡ 0) × (told.needed ≡ 0)
+  pub clock : told.clock ≡ out.clock
+  pub process : told.process ≡ w.manager.me
+  pub processes : told.processes ≡ w.manager.size
+  pub rows : told.rows ≡ map row_numbers out.effects.rows
+  pub acts : told.acts ≡ map act_numbers out.effects.acts
+  pub parcels : (q : ℕ) → q < 64 → slice_get told.parcels q ≡ Some (parcel_numbers (parcel_for out q))
+  pub busy : told.busy ≡ of_truth (is_some w.manager.inst)
+  pub up : told.up ≡ of_truth w.manager.process.up
+  pub held : (q : ℕ) → told.held ≡ q + 1 → HoldsOf w q
+  pub holds_none : told.held ≡ 0 → HoldsNone w
+
+-- a step was made, and is told
+pub record TellsStep (before : List ℕ) (numbers : KtInput) (after : List ℕ) (told : KtOutput) : Type 0 where
+  pub out : Output
+  pub step : IsStepOf before numbers after out
+  pub node : NodeLinks
+  pub says : SaysNode after node
+  pub tells : TellsOutput node out told
+
+-- a parcel came before
+pub record IsAgainOf (before : List ℕ) (numbers : KtInput) : Type 0 where
+  pub x : Input
+  pub meant : input_meant numbers ≡ Some x
+  pub earlier : (w : NodeLinks) → SaysNode before w → IsEarlier w x
+
+-- a step that was made, and its bytes; or a parcel that came before
+abbrev pub IsTaken : List ℕ → KtInput → Option StepMade → Type 0
+IsTaken before numbers None = IsAgainOf before numbers
+IsTaken before numbers (Some step) =
+    IsStepOf before numbers step.bytes.items step.output × SaysNode step.bytes.items step.node
+
+-- why a node that bytes say does not take an input
+pub record RefusesFor (before : List ℕ) (x : Input) (able : Bool) (f : NodeFault) : Type 0 where
+  pub rule : (y : NodeState) → SaysState before y →
+      IsParcelRefusedAs (fault_at y (input_of able x)) (Err f)
+  pub spent : f ≡ fault.ClockSpent → (w : NodeLinks) → SaysNode before w →
+      2 ^ 64 - 2 ≤ max w.clock (clock_of x)
+  pub gap : (n : ℕ) (y : NodeState) → f ≡ fault.Gap n → SaysState before y → (w : NodeLinks) →
+      SaysNode before w → IsGapAt w x n
+
+-- why there is no step; nothing is said of want of memory
+abbrev pub IsNoStep : List ℕ → KtInput → Refusal → Type 0
+IsNoStep before numbers refusal.State = (w : NodeLinks) → SaysNode before w → ⊥
+IsNoStep before numbers refusal.Input = input_meant numbers ≡ None
+IsNoStep before numbers (refusal.Node f) = (x : Input) × (input_meant numbers ≡ Some x)
+    × RefusesFor before x (truth_meant numbers.able) f
+IsNoStep before numbers refusal.Memory = Unit {0}
+
+-- what an input needs of the object of a node that bytes say, as a status
+abbrev pub IsLookOf : List ℕ → Input → ℕ → Type 0
+IsLookOf bytes x status = (w : NodeLinks) (y : NodeState) → SaysNode bytes w → ShowsLinks w y →
+    status ≡ look_status (node_look w y x)
+
+-- a text is the line of a row of a process, with its clock
+abbrev pub IsRowText : KtRow → ℕ → ℕ → List ℕ → Type 0
+IsRowText numbers clock process text = (row : ClockedRow)
+    × (part_row_meant numbers clock process ≡ Some row) × (text ≡ text_of (part_spelling row ∷ []))

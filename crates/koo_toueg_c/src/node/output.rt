@@ -1,0 +1,205 @@
+//! What a step puts out, in numbers.
+
+ghost use Rattle.std.specs.Prelude.{◌≡◌, ◌<◌, ℕ, map, slice_get, Some};
+ghost use Rattle.koo_toueg_c.specs.NodeNumbers.{act_numbers, no_act, no_output, or_one_more, output_of_refusal, output_too_long, parcel_numbers, row_numbers};
+ghost use Rattle.koo_toueg_c.specs.Nodes.{TellsOutput, parcel_for};
+
+use crate::node::parcel::KtParcel;
+use crate::node::refusal::Refusal;
+use crate::node::row::KtRow;
+use crate::node::stepping::Step;
+use kt_base::ProcNo;
+use kt_node::Output;
+use kt_plan::Act;
+use kt_spacetime::NamedEvent;
+
+/// What is to be done to an object, in numbers. A number is 0 where nothing is named.
+#[repr(C)]
+#[derive(Clone, Copy)]
+pub struct KtAct {
+    /// 1 the object takes in a message's body, 2 the state that was saved is kept as the tentative one, 3 the tentative state
+    /// becomes the permanent one, 4 the tentative state is dropped, 5 the object is restored from the permanent state, 6 the
+    /// object is dropped; 0 nothing.
+    pub kind: u32,
+    /// The sender of the message, 0 to 63.
+    pub from: u32,
+    /// The body of the message.
+    pub body: i64,
+}
+
+/// What became of an input, in numbers: what a step puts out, or why there is none. A number is 0 where nothing is named.
+#[repr(C)]
+#[derive(Clone, Copy)]
+pub struct KtOutput {
+    /// Why there is no step: 1 the bytes are those of no node, 2 the numbers mean no input, 3 `Unknown`, 4 `Itself`, 5 `Waits`,
+    /// 6 `HeldFirst`, 7 `HoldsNone`, 8 `LabelsSpent`, 9 `CountsSpent`, 10 `ClockSpent`, 11 `Gap`, 12 there was no memory.
+    pub fault: u32,
+    /// Which process it is of, 0 to 63.
+    pub process: u32,
+    /// How many processes there are.
+    pub processes: u32,
+    /// One more than the process of which it is to take a message next that it holds.
+    pub held: u32,
+    /// Whether it is in an open instance by now, so that a send waits.
+    pub busy: u32,
+    /// Whether its object is up by now.
+    pub up: u32,
+    /// The number of the parcel that has to come first, of `Gap`.
+    pub expected: u64,
+    /// How many bytes the state would take, where it did not fit.
+    pub needed: u64,
+    /// The clock of the step.
+    pub clock: u64,
+    /// The rows that it told, in order.
+    pub rows: [KtRow; 4],
+    /// What is to be done to its object, in order.
+    pub acts: [KtAct; 2],
+    /// The parcel that it put for each process.
+    pub parcels: [KtParcel; 64],
+}
+
+impl KtAct {
+    /// Nothing.
+    pub(crate) fn none() -> KtAct
+        ensures { result ≡ no_act }
+    {
+        KtAct {
+            kind: 0,
+            from: 0,
+            body: 0,
+        }
+    }
+
+    // An act in numbers.
+    fn of(act: &Act) -> KtAct
+        ensures { result ≡ act_numbers act.now }
+    {
+        let kind = match act {
+            Act::Nothing => 0,
+            Act::Apply { from, body } => {
+                return KtAct {
+                    kind: 1,
+                    from: u32::from(from.get()),
+                    body: *body,
+                };
+            }
+            Act::Keep => 2,
+            Act::Promote => 3,
+            Act::Discard => 4,
+            Act::Restore => 5,
+            Act::Drop => 6,
+        };
+        KtAct {
+            kind,
+            ..KtAct::none()
+        }
+    }
+}
+
+impl KtOutput {
+    /// Nothing.
+    pub(crate) fn none() -> KtOutput
+        ensures { result ≡ no_output }
+    {
+        KtOutput {
+            fault: 0,
+            process: 0,
+            processes: 0,
+            held: 0,
+            busy: 0,
+            up: 0,
+            expected: 0,
+            needed: 0,
+            clock: 0,
+            rows: [KtRow::none(); 4],
+            acts: [KtAct::none(); 2],
+            parcels: [KtParcel::none(); 64],
+        }
+    }
+
+    /// Why there is no step.
+    pub(crate) fn of_refusal(why: &Refusal) -> KtOutput
+        ensures { result ≡ output_of_refusal why.now }
+    {
+        KtOutput {
+            fault: why.number(),
+            expected: why.expected(),
+            ..KtOutput::none()
+        }
+    }
+
+    /// How many bytes a state would take.
+    pub(crate) fn too_long(needed: usize) -> KtOutput
+        ensures { result ≡ output_too_long needed }
+    {
+        KtOutput {
+            needed: needed as u64,
+            ..KtOutput::none()
+        }
+    }
+
+    /// What a step puts out, and how its node stands by then.
+    pub(crate) fn of(step: &Step) -> KtOutput
+        ensures { TellsOutput step.now.node step.now.output result }
+    {
+        let (output, manager) = (&step.output, step.node.manager());
+        KtOutput {
+            fault: 0,
+            process: u32::from(manager.me().get()),
+            processes: manager.size() as u32,
+            held: or_one_more(manager.next_held()),
+            busy: u32::from(manager.in_inst().is_some()),
+            up: u32::from(manager.is_up()),
+            expected: 0,
+            needed: 0,
+            clock: output.clock,
+            rows: rows_of(&output.effects.rows),
+            acts: acts_of(&output.effects.acts),
+            parcels: parcels_of(output),
+        }
+    }
+}
+
+// One more than a process, or 0.
+fn or_one_more(process: Option<ProcNo>) -> u32
+    ensures { result ≡ or_one_more process }
+{
+    match process {
+        Some(process) => u32::from(process.get()) + 1,
+        None => 0,
+    }
+}
+
+// Rows in numbers.
+fn rows_of(rows: &[Option<NamedEvent>; 4]) -> [KtRow; 4]
+    ensures { result ≡ map row_numbers rows.now }
+{
+    let [first, second, third, fourth] = rows;
+    [
+        KtRow::of(first),
+        KtRow::of(second),
+        KtRow::of(third),
+        KtRow::of(fourth),
+    ]
+}
+
+// Acts in numbers.
+fn acts_of(acts: &[Act; 2]) -> [KtAct; 2]
+    ensures { result ≡ map act_numbers acts.now }
+{
+    let [first, second] = acts;
+    [KtAct::of(first), KtAct::of(second)]
+}
+
+// The parcel for each process, in numbers.
+fn parcels_of(output: &Output) -> [KtParcel; 64]
+    ensures { (q : ℕ) → q < 64 →
+        slice_get result q ≡ Some (parcel_numbers (parcel_for output.now q)) }
+{
+    let mut parcels = [KtParcel::none(); 64];
+    for number in 0..ProcNo::COUNT {
+        let to = ProcNo::nth(number);
+        parcels[to.index()] = KtParcel::of(output.to(to));
+    }
+    parcels
+}

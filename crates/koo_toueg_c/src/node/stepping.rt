@@ -1,0 +1,84 @@
+//! Steps of a node that is bytes.
+
+ghost use Rattle.std.specs.Prelude.{◌≡◌, ◌≤◌, ◌-◌, ◌^◌, ℕ, max, IfOk, IfErr, IsErrOf};
+ghost use Rattle.kt_tables.specs.Calls.{Speaks};
+ghost use Rattle.kt_node.specs.Nodes.{NodeState};
+ghost use Rattle.kt_node.specs.Faults.{fault_at};
+ghost use Rattle.kt_node.specs.Links.{IsParcelRefusedAs, IsStep, IsUntaken};
+ghost use Rattle.kt_node.specs.Looks.{clock_of, input_of};
+ghost use Rattle.kt_node.specs.Managers.{ShowsNode};
+ghost use Rattle.kt_node.specs.declared.node.NodeFault.TheVariants as fault;
+ghost use Rattle.koo_toueg_c.specs.Nodes.{IsGapAt, IsNoStep, IsTaken, SaysNode, TakesInOrder, rule_at};
+
+use crate::node::input::KtInput;
+use crate::node::refusal::Refusal;
+use kt_base::Memory;
+use kt_node::{Input, Node, NodeFault, Output, Taken};
+use kt_node_text::{load, save};
+use std::alloc::Global;
+
+/// A step that was made: what it puts out, the node after it, and the bytes of this.
+#[derive(Drop)]
+pub(crate) struct Step {
+    pub(crate) output: Output,
+    pub(crate) node: Node,
+    pub(crate) bytes: Vec<u8>,
+}
+
+/// The bytes of a node.
+pub(crate) fn bytes_of(alloc: Global, node: &Node) -> Result<Vec<u8>, Memory>
+    ensures { IfOk result (λ bytes. SaysNode bytes.items node.now) }
+{
+    let mut bytes = Vec::new(alloc);
+    save(node, &mut bytes)?;
+    Ok(bytes)
+}
+
+/// The step of the node that these bytes say, at the input that numbers mean; None where a parcel came before.
+pub(crate) fn stepped(
+    alloc: Global,
+    state: &[u8],
+    numbers: &KtInput,
+) -> Result<Option<Step>, Refusal>
+    ensures step { IfOk result (IsTaken state.now numbers.now) }
+    ensures refused { IfErr result (IsNoStep state.now numbers.now) }
+{
+    let mut node = load(alloc, state)?;
+    let Some(input) = numbers.meant() else {
+        return Err(Refusal::Input);
+    };
+    match take(alloc, &mut node, &input, numbers.is_able())? {
+        Taken::Step(output) => {
+            let bytes = bytes_of(alloc, &node)?;
+            Ok(Some(Step {
+                output,
+                node,
+                bytes,
+            }))
+        }
+        Taken::Again => Ok(None),
+    }
+}
+
+// A node takes what comes to it.
+fn take(alloc: Global, node: &mut Node, input: &Input, able: bool) -> Result<Taken, NodeFault>
+    ensures done { (y : NodeState) → ShowsNode node.old.manager y →
+        Speaks ((rule_at y able input.now).state.calls) →
+        IfOk result (λ t. IsUntaken t
+        (IsStep node.old node.new (clock_of input.now) y (input_of able input.now))) }
+    ensures next { IfOk result (TakesInOrder node.old node.new input.now) }
+    ensures refused { (y : NodeState) → ShowsNode node.old.manager y →
+        IsParcelRefusedAs (fault_at y (input_of able input.now)) result }
+    ensures spent { IsErrOf result fault.ClockSpent →
+        2 ^ 64 - 2 ≤ max node.old.clock (clock_of input.now) }
+    ensures gap { (n : ℕ) (y : NodeState) → ShowsNode node.old.manager y →
+        IsErrOf result (fault.Gap n) → IsGapAt node.old input.now n }
+{
+    match input {
+        Input::Send { to, body } => Ok(Taken::Step(node.send(*to, *body)?)),
+        Input::Begin(kind) => Ok(Taken::Step(node.begin(alloc, *kind, able)?)),
+        Input::Fail => Ok(Taken::Step(node.fail()?)),
+        Input::Redeliver(from) => Ok(Taken::Step(node.redeliver(*from)?)),
+        Input::Deliver { from, envelope } => node.deliver(alloc, *from, able, envelope),
+    }
+}

@@ -1,0 +1,169 @@
+//! Two nodes: a message with its checkpoint, what is refused, and buffers that are too short.
+
+use crate::node::input::KtInput;
+use crate::node::output::KtOutput;
+use crate::node::parcel::KtParcel;
+use crate::node::{kt_node_look, kt_node_new, kt_node_step, kt_row_text};
+use std::alloc::Global;
+use std::rt::HostRuntime;
+
+// A node's bytes, and what its last step put out.
+#[derive(Drop)]
+struct Held {
+    state: [u8; 4096],
+    len: usize,
+    output: KtOutput,
+}
+
+// A node of two processes.
+fn opened(alloc: Global, me: u32) -> Held {
+    let (mut state, mut len) = ([0; 4096], 0);
+    kt_node_new(alloc, me, 2, &mut state, &mut len);
+    Held {
+        state,
+        len,
+        output: KtOutput::none(),
+    }
+}
+
+// A command to a process, or of one.
+fn command(kind: u32, peer: u32) -> KtInput {
+    KtInput {
+        kind,
+        peer,
+        rollback: 0,
+        able: 1,
+        body: -7,
+        parcel: KtParcel::none(),
+    }
+}
+
+// What comes of a process.
+fn coming(peer: u32, parcel: KtParcel) -> KtInput {
+    KtInput {
+        parcel,
+        ..command(5, peer)
+    }
+}
+
+impl Held {
+    fn bytes(&self) -> &[u8] {
+        &self.state[..self.len.min(4096)]
+    }
+
+    fn step(&mut self, alloc: Global, input: &KtInput) -> u32 {
+        kt_node_step(
+            alloc,
+            &mut self.state,
+            &mut self.len,
+            input,
+            &mut self.output,
+        )
+    }
+}
+
+#[test]
+fn opens(rt: HostRuntime) {
+    let (mut state, mut len) = ([0; 4096], 9);
+    assert!(rt; kt_node_new(rt.alloc(), 2, 2, &mut state, &mut len) == 2 && len == 0);
+    assert!(rt; kt_node_new(rt.alloc(), 0, 65, &mut state, &mut len) == 2 && len == 0);
+    assert!(rt; kt_node_new(rt.alloc(), 0, 2, &mut state[..8], &mut len) == 5 && len > 2600);
+    let needed = len;
+    assert!(rt; kt_node_new(rt.alloc(), 0, 2, &mut state, &mut len) == 0 && len == needed);
+    assert!(rt; state[0] == 1 && state[..].get(needed) == Some(&0));
+}
+
+#[test]
+fn sends(rt: HostRuntime) {
+    let (mut zero, mut one) = (opened(rt.alloc(), 0), opened(rt.alloc(), 1));
+    assert!(rt; zero.step(rt.alloc(), &command(1, 1)) == 0);
+    let put = zero.output;
+    assert!(rt; put.clock == 1 && put.up == 1 && put.busy == 0 && put.fault == 0);
+    assert!(rt; put.process == 0 && put.processes == 2 && put.held == 0);
+    assert!(rt; put.rows[0].kind == 1 && put.rows[0].label == 1 && put.rows[0].body == -7);
+    assert!(rt; put.rows[1].kind == 0 && put.acts[0].kind == 0 && put.parcels[0].kind == 0);
+    let parcel = put.parcels[1];
+    assert!(rt; parcel.kind == 1 && parcel.number == 1 && parcel.clock == 1 && parcel.label == 1);
+    let early = KtParcel {
+        number: 2,
+        ..parcel
+    };
+    assert!(rt; one.step(rt.alloc(), &coming(0, early)) == 2);
+    assert!(rt; one.output.fault == 11 && one.output.expected == 1);
+    assert!(rt; one.step(rt.alloc(), &coming(0, parcel)) == 0);
+    assert!(rt; one.output.clock == 2 && one.output.rows[0].kind == 2);
+    let act = one.output.acts[0];
+    assert!(rt; act.kind == 1 && act.from == 0 && act.body == -7);
+    assert!(rt; one.step(rt.alloc(), &coming(0, parcel)) == 1 && one.output.clock == 0);
+}
+
+#[test]
+fn saves(rt: HostRuntime) {
+    let (mut zero, mut one) = (opened(rt.alloc(), 0), opened(rt.alloc(), 1));
+    zero.step(rt.alloc(), &command(1, 1));
+    one.step(rt.alloc(), &coming(0, zero.output.parcels[1]));
+    let begin = command(2, 0);
+    assert!(rt; kt_node_look(rt.alloc(), one.bytes(), &begin) == 0);
+    assert!(rt; one.step(rt.alloc(), &begin) == 0);
+    assert!(rt; one.output.busy == 1 && one.output.acts[0].kind == 2);
+    let ask = one.output.parcels[0];
+    assert!(rt; ask.kind == 2 && ask.rollback == 0 && ask.initiator == 1 && ask.count == 1);
+    assert!(rt; one.step(rt.alloc(), &command(1, 0)) == 2 && one.output.fault == 5);
+    assert!(rt; kt_node_look(rt.alloc(), zero.bytes(), &coming(1, ask)) == 0);
+    assert!(rt; zero.step(rt.alloc(), &coming(1, ask)) == 0);
+    assert!(rt; kt_node_look(rt.alloc(), zero.bytes(), &command(3, 0)) == 1);
+    let reply = zero.output.parcels[1];
+    assert!(rt; reply.kind == 3 && reply.yes == 1);
+    assert!(rt; one.step(rt.alloc(), &coming(0, reply)) == 0);
+    assert!(rt; one.output.rows[0].kind == 8 && one.output.rows[0].commit == 1);
+    assert!(rt; one.output.rows[1].kind == 9 && one.output.acts[0].kind == 3);
+    assert!(rt; zero.step(rt.alloc(), &coming(1, one.output.parcels[0])) == 0);
+    assert!(rt; zero.output.acts[0].kind == 3 && zero.output.busy == 0);
+}
+
+#[test]
+fn refuses(rt: HostRuntime) {
+    let mut node = opened(rt.alloc(), 0);
+    let before = node.len.min(4096);
+    assert!(rt; node.step(rt.alloc(), &command(1, 0)) == 2 && node.output.fault == 4);
+    assert!(rt; node.step(rt.alloc(), &command(1, 2)) == 2 && node.output.fault == 3);
+    assert!(rt; node.step(rt.alloc(), &command(1, 64)) == 2 && node.output.fault == 2);
+    assert!(rt; node.step(rt.alloc(), &command(6, 1)) == 2 && node.output.fault == 2);
+    assert!(rt; node.step(rt.alloc(), &command(4, 1)) == 2 && node.output.fault == 7);
+    let mut len = before;
+    let send = command(1, 1);
+    let short = kt_node_step(
+        rt.alloc(),
+        &mut node.state[..before],
+        &mut len,
+        &send,
+        &mut node.output,
+    );
+    assert!(rt; short == 5 && len == before && node.output.needed > before as u64);
+    let half = before / 2;
+    len = half;
+    let torn = kt_node_step(
+        rt.alloc(),
+        &mut node.state,
+        &mut len,
+        &send,
+        &mut node.output,
+    );
+    assert!(rt; torn == 2 && node.output.fault == 1 && len == half);
+    assert!(rt; kt_node_look(rt.alloc(), &node.state[..half], &send) == 2);
+    assert!(rt; node.step(rt.alloc(), &send) == 0 && node.output.clock == 1);
+}
+
+#[test]
+fn spells(rt: HostRuntime) {
+    let mut node = opened(rt.alloc(), 0);
+    let (mut line, mut len) = ([7; 40], 0);
+    node.step(rt.alloc(), &command(1, 1));
+    let row = node.output.rows[0];
+    let short = kt_row_text(rt.alloc(), &row, 1, 0, &mut line[..9], &mut len);
+    assert!(rt; short == 5 && len == 19 && line[0] == 7);
+    assert!(rt; kt_row_text(rt.alloc(), &row, 1, 0, &mut line, &mut len) == 0);
+    assert!(rt; line.starts_with(b"1,sent,0,1,-7,m0.1\n") && len == 19 && line[19] == 7);
+    let none = node.output.rows[1];
+    assert!(rt; kt_row_text(rt.alloc(), &none, 1, 0, &mut line, &mut len) == 2 && len == 0);
+}
