@@ -1,0 +1,194 @@
+"""A bank of branches that pay each other over TCP, each a process of this machine. Some are killed, and start again.
+
+usage: bank.py [--branches N] [--seconds S] [--kills K] [--seed SEED] [--folder FOLDER]
+
+For S seconds it draws payments and checkpoints, and kills K times a branch. Then it waits until nothing is left to do, merges the parts
+of all branches into one log, asks the checker whether this is the log of a run, and counts the money in each recovery line. It ends
+with 0 where the answer is yes and the money is all there.
+"""
+import argparse
+import json
+import pathlib
+import random
+import signal
+import socket
+import subprocess
+import sys
+import tempfile
+import threading
+import time
+
+from account import OPENING, Account, money
+from branch import HOST
+
+import koo_toueg
+
+BRANCH = pathlib.Path(__file__).resolve().parent / "branch.py"
+
+
+class Broken(Exception):
+    """Why a session is not as it has to be."""
+
+
+def free_port(count):
+    """A port that is free on this machine, and so are those after it."""
+    while True:
+        port = random.SystemRandom().randrange(20_000, 32_000)
+        try:
+            for p in range(count):
+                socket.create_server((HOST, port + p)).close()
+            return port
+        except OSError:
+            pass
+
+
+class Bank:
+    """The branches, each a process that is started again where it was killed, by words and in an environment that may be other ones."""
+
+    def __init__(self, count, folder, words=(sys.executable, str(BRANCH)), environment=lambda: None):
+        self.count, self.folder, self.words, self.environment = count, pathlib.Path(folder), words, environment
+        self.port, self.processes, self.quiet = free_port(count), {}, set()
+        self.kills, self.times, self.fault, self.is_ending = 0, [], None, False
+        self.folder.mkdir(parents=True)
+
+    def keep(self, p):
+        """Starts a branch, and again where it was killed; until it ends."""
+        while not self.fault:
+            began, words = time.monotonic(), (str(p), str(self.count), str(self.branch_folder(p)), str(self.port))
+            with open(self.folder / f"errors{p}", "w+b") as errors:
+                process = subprocess.Popen([*self.words, *words], env=self.environment(), stdin=subprocess.PIPE, stdout=subprocess.PIPE, stderr=errors)
+                self.processes[p] = process
+                if self.is_ending:
+                    self.tell(p, "end")
+                for line in process.stdout:
+                    if line == b"up\n":
+                        self.times.append(time.monotonic() - began)
+                    else:
+                        self.quiet.add(p)
+                status = process.wait()
+                if status == 0:
+                    return
+                if status != -signal.SIGKILL:
+                    errors.seek(0)
+                    self.fault = f"branch {p} stopped: {errors.read().decode().strip().splitlines()[-1:]}"
+            self.quiet.discard(p)
+            self.kills += 1
+            time.sleep(random.uniform(0, .2))
+
+    def tell(self, p, *words):
+        """Gives a branch a command, which it does not get where it was killed."""
+        try:
+            self.processes[p].stdin.write(" ".join(map(str, words)).encode() + b"\n")
+            self.processes[p].stdin.flush()
+        except (KeyError, OSError):
+            pass
+
+    def work(self, seconds, kills, chance):
+        """Draws payments, checkpoints and kills."""
+        began = time.monotonic()
+        times = sorted(chance.uniform(0, seconds) for _ in range(kills))
+        while (now := time.monotonic() - began) < seconds and not self.fault:
+            p, to = chance.sample(range(self.count), 2)
+            self.tell(p, "pay", to, chance.randint(1, OPENING // 4))
+            if chance.random() < .04:
+                self.tell(p, "checkpoint")
+            if times and times[0] < now and p in self.processes:
+                del times[0]
+                self.processes[p].kill()
+            time.sleep(chance.uniform(0, .01))
+
+    def settle(self, seconds=30):
+        """Waits until no branch has anything left to do."""
+        self.is_ending, until = True, time.monotonic() + seconds
+        for p in range(self.count):
+            self.tell(p, "end")
+        while len(self.quiet) < self.count and not self.fault:
+            if time.monotonic() > until:
+                self.fault = "something is left to do"
+            time.sleep(.02)
+
+    def session(self, seconds, kills, chance):
+        """Work with kills, to its end."""
+        keepers = [threading.Thread(target=self.keep, args=(p,)) for p in range(self.count)]
+        for keeper in keepers:
+            keeper.start()
+        self.work(seconds, kills, chance)
+        self.settle()
+        for process in self.processes.values():
+            process.stdin.close()
+        for keeper in keepers:
+            keeper.join()
+        if self.fault:
+            raise Broken(self.fault)
+
+    def branch_folder(self, p):
+        return self.folder / f"branch{p}"
+
+    def log(self):
+        """One log of all branches, which has to be that of a run."""
+        log = koo_toueg.merge([(self.branch_folder(p) / "part").read_bytes() for p in range(self.count)])
+        (self.folder / "log").write_bytes(log)
+        answer = koo_toueg.judge(log)
+        if not answer:
+            raise Broken(str(answer))
+        return log
+
+    def steps(self):
+        """How many steps the nodes made."""
+        return sum(json.loads((self.branch_folder(p) / "state").read_text())["numbers"][1] for p in range(self.count))
+
+    def saved(self, p, number):
+        """What a branch saved as its so many-th checkpoint, 0 for the opening."""
+        return Account((self.branch_folder(p) / f"saved{number}").read_text())
+
+
+def recovery_lines(log, count):
+    """For each recovery line of a log, which checkpoint of each branch it has: its first one is 0, the opening."""
+    line, taken, kinds, members = [0] * count, [0] * count, {}, {}
+    yield line
+    for row in log.decode().split("\n"):
+        match row.split(","):
+            case "began", p, k, kind:
+                kinds[k], members[k] = kind, []
+            case "took", p, k, _:
+                taken[int(p)] += 1
+                members[k].append(int(p))
+            case "decided", p, k, "commit" if kinds[k] == "checkpoint":
+                for q in members[k]:
+                    line[q] = taken[q]
+                yield line
+
+
+def audit(bank, log):
+    """Counts the money in each recovery line; how many lines there are."""
+    lines = 0
+    for line in recovery_lines(log, bank.count):
+        found, lines = money([bank.saved(p, number) for p, number in enumerate(line)]), lines + 1
+        if found != bank.count * OPENING:
+            raise Broken(f"recovery line {lines}: {found} in place of {bank.count * OPENING}")
+    return lines
+
+
+def main():
+    parser = argparse.ArgumentParser(description=__doc__.split("\n", maxsplit=1)[0])
+    parser.add_argument("--branches", type=int, default=4, metavar="N")
+    parser.add_argument("--seconds", type=float, default=5, metavar="S")
+    parser.add_argument("--kills", type=int, default=5, metavar="K")
+    parser.add_argument("--seed", type=int, default=1)
+    parser.add_argument("--folder", help="a new one for what the branches write")
+    asked = parser.parse_args()
+    try:
+        bank = Bank(asked.branches, asked.folder or pathlib.Path(tempfile.mkdtemp(prefix="bank-")) / "branches")
+        bank.session(asked.seconds, asked.kills, random.Random(asked.seed))
+        log = bank.log()
+        lines = audit(bank, log)
+    except (Broken, FileExistsError, koo_toueg.Fault) as why:
+        sys.exit(f"bank.py: {why}")
+    back = f"; an account was back after {max(bank.times) * 1000:.0f} ms at most" if bank.times else ""
+    print(f"{asked.branches} branches, {bank.kills} kills: {bank.steps()} steps, {log.count(b'decided')} instances{back}")
+    print(f"{lines} recovery lines, with {asked.branches * OPENING} in each; {bank.folder} has what the branches wrote")
+    print("yes")
+
+
+if __name__ == "__main__":
+    main()
