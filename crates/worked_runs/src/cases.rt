@@ -1,40 +1,26 @@
 //! Runs over sums of which one has a trouble.
+//!
+//! A line says the files of the scenario and of the steps, `-` for none, the number of the object that has a trouble, counted
+//! from 1 in the order of the processes, each with its spares behind it, 0 for all, and the trouble: the call, which one, and
+//! its answer. Before it stands how the run is made: `play`, or `live`, with its texts; `meet` for a run in threads whose texts
+//! are not shown; `fail_played` or `fail_live` for one by writers that fail. Behind `run` or `threads` stands the file of a
+//! scenario alone, which is run over counters.
 
-use crate::commands::Host;
-use crate::papers::{Papers, Text};
-use crate::plans::{plan_in, steps_in, word};
+use crate::commands::{Host, plan_in, steps_in, word};
+use crate::running::{Way, show_counters_of};
 use crate::staged::{Meeting, Staged, Trouble};
+use crate::streams::Paper;
 use kt_base::Memory;
-use kt_object::{Cast, Object, SlotBook, Sum};
+use kt_object::{Object, SlotBook, Sum};
 use kt_plan::{Plan, Step};
 use kt_program::{AppFault, cast_of, live_plan, play_plan};
 use std::alloc::Global;
+use std::cell::Cell;
 use std::io;
 use std::sync::Arc;
 
 // More calls than a text of the runs has bytes.
 const MOST_CALLS: usize = 10_000;
-
-/// How a run is made, and what is shown of it: one step after another or in threads, with its texts; in threads, and how it
-/// ended alone; or at how many calls the writers of its texts may fail.
-#[derive(Clone, Copy)]
-pub(crate) enum Way {
-    Play,
-    Live,
-    Meet,
-    FailingPlay,
-    FailingLive,
-}
-
-impl Way {
-    fn word(self) -> &'static str {
-        match self {
-            Way::Play | Way::FailingPlay => "play_plan",
-            Way::Live | Way::FailingLive => "live_plan",
-            Way::Meet => "live",
-        }
-    }
-}
 
 // A run: its plan, the steps given, the trouble of one of its objects, or of all for 0, and where two of them meet.
 #[derive(Drop)]
@@ -65,30 +51,35 @@ struct Ended {
     out: usize,
 }
 
-// Makes a run over objects.
-fn make_run<R: Host>(
-    rt: &R,
-    case: &Case,
-    way: Way,
-    cast: Cast,
-    papers: &mut Papers,
-) -> Result<(), AppFault> {
-    let Papers { log, cert, report } = papers;
-    match way {
-        Way::Play | Way::FailingPlay => {
-            play_plan(rt.alloc(), case.plan, case.steps, cast, log, cert, report)
-        }
-        Way::Live | Way::Meet | Way::FailingLive => {
-            live_plan(rt, rt.alloc(), case.plan, cast, log, cert, report)
+// What the log, the certificates and the report of a run are written on.
+#[derive(Drop)]
+struct Papers {
+    log: Paper,
+    cert: Paper,
+    report: Paper,
+}
+
+// The call at which the paper with a number fails.
+fn call_for(number: u8, text: u8, call: usize) -> usize {
+    if number == text { call } else { usize::MAX }
+}
+
+impl Papers {
+    // Papers of which that with this number fails at a call.
+    fn new(alloc: Global, text: u8, call: usize) -> Papers {
+        Papers {
+            log: Paper::new(alloc, call_for(0, text, call)),
+            cert: Paper::new(alloc, call_for(1, text, call)),
+            report: Paper::new(alloc, call_for(2, text, call)),
         }
     }
 }
 
-// Makes a run over the objects of its case.
+// Makes a run over the objects of its case, one step after another or in threads.
 fn run_staged<R: Host>(
     rt: &R,
     case: &Case,
-    way: Way,
+    threads: bool,
     book: &mut SlotBook,
     papers: &mut Papers,
 ) -> Result<(), AppFault> {
@@ -96,133 +87,123 @@ fn run_staged<R: Host>(
     let mut made: u64 = 0;
     let cast = cast_of(alloc, case.plan, |_kind: u8| -> Result<Object, Memory> {
         made = made.saturating_add(1);
-        let (sum, meeting) = (Sum::new(book.open()?), Arc::try_clone(case.meeting)?);
-        let staged = Staged::new(sum, made, case.trouble_of(made), meeting);
+        let staged = Staged {
+            sum: Sum::new(book.open()?),
+            number: made,
+            trouble: case.trouble_of(made),
+            meeting: Arc::try_clone(case.meeting)?,
+            saves: Cell::new(0),
+            restores: 0,
+        };
         Ok(Box::new(alloc, staged)?)
     })?;
-    make_run(rt, case, way, cast, papers)
+    let Papers { log, cert, report } = papers;
+    if threads {
+        live_plan(rt, alloc, case.plan, cast, log, cert, report)
+    } else {
+        play_plan(alloc, case.plan, case.steps, cast, log, cert, report)
+    }
 }
 
 // Makes a run; how it ended.
-fn end_of<R: Host>(rt: &R, case: &Case, way: Way, papers: &mut Papers) -> Ended {
+fn end_of<R: Host>(rt: &R, case: &Case, threads: bool, papers: &mut Papers) -> Ended {
     let mut book = SlotBook::new(rt.alloc());
-    let fault = run_staged(rt, case, way, &mut book, papers).err();
+    let fault = run_staged(rt, case, threads, &mut book, papers).err();
     let freed = book.collect();
     let out = book.out();
     Ended { fault, freed, out }
 }
 
-// Shows that a run came to its end, or its fault; how many slots came free, and whether two objects saw each other.
-fn show_end<R: Host>(rt: &R, case: &Case, ended: Ended) -> io::Result<()> {
-    let Ended { fault, freed, out } = ended;
-    match fault {
-        None => println!(rt; "done")?,
-        Some(fault) => {
-            let status = fault.status();
-            println!(rt; "{fault:?}, status {status}: {fault}")?
-        }
-    }
-    let met = if case.meeting.both_seen() {
-        ", both met"
-    } else {
-        ""
-    };
-    println!(rt; "then slots freed: {freed}, out: {out}{met}")
-}
-
 // At how many calls the writer of a text can fail: at each the run ends with a write fault, and no slot is out.
-fn calls_that_fail<R: Host>(rt: &R, case: &Case, way: Way, text: Text) -> io::Result<usize> {
+fn calls_that_fail<R: Host>(rt: &R, case: &Case, threads: bool, text: u8) -> usize {
     for call in 0..MOST_CALLS {
-        let ended = end_of(rt, case, way, &mut Papers::failing(rt.alloc(), text, call));
-        match ended.fault {
-            None => return Ok(call),
-            Some(AppFault::Write) if ended.out == 0 => {}
-            Some(_) => return Err(io::Error::from(io::ErrorKind::Other)),
+        let mut papers = Papers::new(rt.alloc(), text, call);
+        match end_of(rt, case, threads, &mut papers) {
+            Ended {
+                fault: Some(AppFault::Write),
+                out: 0,
+                ..
+            } => {}
+            Ended { fault: None, .. } => return call,
+            _ => return MOST_CALLS,
         }
     }
-    Ok(MOST_CALLS)
+    MOST_CALLS
 }
 
 // Shows at how many calls the writer of each text can fail.
-fn show_calls<R: Host>(rt: &R, case: &Case, way: Way) -> io::Result<()> {
-    let log = calls_that_fail(rt, case, way, Text::Log)?;
-    let cert = calls_that_fail(rt, case, way, Text::Certificates)?;
-    let report = calls_that_fail(rt, case, way, Text::Report)?;
-    let word = way.word();
-    println!(rt; "{word}: {log}, {cert} and {report} calls that fail")
+fn show_calls<R: Host>(rt: &R, case: &Case, threads: bool) -> io::Result<()> {
+    let log = calls_that_fail(rt, case, threads, 0);
+    let cert = calls_that_fail(rt, case, threads, 1);
+    let report = calls_that_fail(rt, case, threads, 2);
+    println!(rt; "{log}, {cert} and {report} calls that fail")
 }
 
-// Makes a run, and shows what is written of it, if that is not what was written before, and how it ended.
-fn show_made<R: Host>(
-    rt: &R,
-    case: &Case,
-    way: Way,
-    before: &Papers,
-    papers: &mut Papers,
-) -> io::Result<()> {
-    println!(rt; "{}", way.word())?;
-    let ended = end_of(rt, case, way, papers);
-    if !matches!(way, Way::Meet) {
-        papers.show(rt, before)?;
-    }
+// Shows the fault of a run, if it had one, how many slots came free and are out, and whether two objects met.
+fn show_end<R: Print>(rt: &R, case: &Case, ended: Ended) -> io::Result<()> {
+    let Ended { fault, freed, out } = ended;
+    let met = case.meeting.both_seen();
+    println!(rt; "fault: {fault:?}; slots freed: {freed}, out: {out}; met: {met}")
+}
+
+// Shows the texts of a run, and how it ended.
+fn show_texts<R: Print>(rt: &R, case: &Case, ended: Ended, papers: &Papers) -> io::Result<()> {
+    let Papers { log, cert, report } = papers;
+    print!(rt; "{}{}{}", log.text(), cert.text(), report.text())?;
     show_end(rt, case, ended)
 }
 
-// Shows a run made in one way; what is written of it is kept for the next one.
-fn show_way<R: Host>(rt: &R, case: &Case, way: Way, before: &mut Papers) -> io::Result<()> {
-    if matches!(way, Way::FailingPlay | Way::FailingLive) {
-        return show_calls(rt, case, way);
+// Shows a run, with its texts where there is one order of its steps.
+fn show_run<R: Host>(rt: &R, case: &Case, way: &str) -> io::Result<()> {
+    let mut papers = Papers::new(rt.alloc(), 3, 0);
+    let ended = end_of(rt, case, way != "play", &mut papers);
+    match way {
+        "meet" => show_end(rt, case, ended),
+        _ => show_texts(rt, case, ended, &papers),
     }
-    let mut papers = Papers::whole(rt.alloc());
-    show_made(rt, case, way, before, &mut papers)?;
-    *before = papers;
-    Ok(())
-}
-
-// Shows a run made in these ways.
-fn show_ways<R: Host>(rt: &R, case: &Case, ways: &[Way], papers: &mut Papers) -> io::Result<()> {
-    for way in ways {
-        show_way(rt, case, *way, papers)?;
-    }
-    Ok(())
-}
-
-// The trouble that a line says, in its last words: the call, which one, and its answer.
-fn trouble_of(line: &str) -> Trouble {
-    let at = word(line, 4).parse::<u64>().unwrap_or(0);
-    Trouble::of_words(word(line, 3), at, word(line, 5))
 }
 
 // Shows the run of a line with this plan and these steps.
-fn show_planned<R: Host>(
+fn show_made<R: Host>(
     rt: &R,
+    way: &str,
     line: &str,
-    ways: &[Way],
     plan: &Plan,
     steps: &[Step],
 ) -> io::Result<()> {
     let meeting = Arc::new(rt.alloc(), Meeting::new())?;
+    let at = word(line, 4).parse::<u64>().unwrap_or(0);
     let case = Case {
         plan,
         steps,
         object: word(line, 2).parse::<u64>().unwrap_or(0),
-        trouble: trouble_of(line),
+        trouble: Trouble::of_words(word(line, 3), at, word(line, 5)),
         meeting: &meeting,
     };
-    show_ways(rt, &case, ways, &mut Papers::whole(rt.alloc()))
+    match way {
+        "fail_played" => show_calls(rt, &case, false),
+        "fail_live" => show_calls(rt, &case, true),
+        _ => show_run(rt, &case, way),
+    }
 }
 
-/// Shows the run of a line, made in these ways: the files of the scenario and of the steps, the number of the object that has a
-/// trouble, counted from 1 in the order of the processes, each with its spares behind it, and the trouble: the call, which
-/// one, and its answer.
-pub(crate) fn show_runs<R: Host>(rt: &R, line: &str, ways: &[Way]) -> io::Result<()> {
+// Shows a run of a plan over the sums that a line says, made in this way.
+fn show_staged<R: Host>(rt: &R, way: &str, line: &str, plan: &Plan) -> io::Result<()> {
+    let steps = steps_in(rt, word(line, 1), plan)?;
+    show_made(rt, way, line, plan, steps.as_slice())
+}
+
+// Shows a run of a plan, made in this way.
+fn show_planned<R: Host>(rt: &R, way: &str, line: &str, plan: &Plan) -> io::Result<()> {
+    match way {
+        "run" => show_counters_of(rt, &Way::Run, plan),
+        "threads" => show_counters_of(rt, &Way::Live, plan),
+        _ => show_staged(rt, way, line, plan),
+    }
+}
+
+/// Shows the run of a line, made in this way.
+pub(crate) fn show_case<R: Host>(rt: &R, way: &str, line: &str) -> io::Result<()> {
     let plan = plan_in(rt, word(line, 0))?;
-    let steps = steps_in(rt, word(line, 1), &plan)?;
-    show_planned(rt, line, ways, &plan, steps.as_slice())
-}
-
-/// Shows a line and its run, made in these ways.
-pub(crate) fn show_line<R: Host>(rt: &R, line: &str, ways: &[Way]) -> io::Result<()> {
-    println!(rt; "{line}")?;
-    show_runs(rt, line, ways)
+    show_planned(rt, way, line, &plan)
 }

@@ -10,7 +10,7 @@ ghost use Rattle.kt_walk.specs.WalkOf.{WalkOf};
 ghost use Rattle.kt_meaning.specs.Passing.{IsPassed};
 ghost use Rattle.worked_runs.specs.Walked.{IsWalkedText};
 
-use crate::commands::{Host, value_of};
+use crate::commands::{value_of, word};
 use anyhow::Result;
 use kt_base::{Memory, MsgNo, ProcNo};
 use kt_chain::read_certs;
@@ -21,6 +21,7 @@ use kt_spacetime::{Certificate, SpaceTime, Verdict};
 use kt_walk::Walk;
 use std::alloc::Global;
 use std::io::Read;
+use std::rt::Files;
 use std::{fs, io};
 
 /// The walk of a stored log, which is legal.
@@ -102,12 +103,16 @@ fn is_yes(verdict: Verdict) -> bool
     }
 }
 
-// Shows how many rows there are, and where processes 0 and 1 stand.
-fn show_places<R: Host>(rt: &R, walk: &Walk) -> io::Result<()> {
+// Shows how many rows there are, where processes 0 and 1 stand, and the orphan of the permanent cut, 0 for none.
+fn show_places<R: Print>(rt: &R, walk: &Walk) -> io::Result<()> {
     let (p, q) = (ProcNo::nth(0), ProcNo::nth(1));
-    let rows = walk.rows();
+    let orphan = match permanent_orphan(walk) {
+        Some(msg) => msg.get(),
+        None => 0,
+    };
     println!(rt;
-        "{rows} rows; permanent {} of {}, {} of {}",
+        "{} rows; permanent {} of {}, {} of {}; orphan {orphan}",
+        walk.rows(),
         walk.permanent(p),
         walk.length(p),
         walk.permanent(q),
@@ -115,32 +120,31 @@ fn show_places<R: Host>(rt: &R, walk: &Walk) -> io::Result<()> {
     )
 }
 
-// Shows the orphan of the permanent cut.
-fn show_orphan<R: Host>(rt: &R, walk: &Walk) -> io::Result<()> {
-    match permanent_orphan(walk) {
-        Some(msg) => println!(rt; "orphan {msg}"),
-        None => println!(rt; "no orphan"),
+/// Shows what a walk tells of a stored log.
+pub(crate) fn show_walk<R: Files + Print + AllocGlobal>(rt: &R, log: &str) -> io::Result<()> {
+    let text = fs::open(rt, log)?;
+    match walk_of(rt.alloc(), text) {
+        Ok(walk) => show_places(rt, &walk),
+        Err(_) => println!(rt; "no walk"),
     }
 }
 
-// Shows what a walk tells of a stored log.
-fn show_walk<R: Host>(rt: &R, log: &str) -> io::Result<()> {
-    let walk = value_of(walk_of(rt.alloc(), fs::open(rt, log)?))?;
-    show_places(rt, &walk)?;
-    show_orphan(rt, &walk)
+// Shows what the checker says of a stored log with these certificates.
+fn show_answer<R: Files + Print + AllocGlobal>(
+    rt: &R,
+    log: &str,
+    certificates: &[Certificate],
+) -> io::Result<()> {
+    let text = fs::open(rt, log)?;
+    match passes(rt.alloc(), text, certificates) {
+        Ok(yes) => println!(rt; "passes: {yes}"),
+        Err(_) => println!(rt; "no answer"),
+    }
 }
 
-// Shows what the checker says of a stored log with stored certificates.
-fn show_passes<R: Host>(rt: &R, log: &str, cert: &str) -> io::Result<()> {
-    let certificates = value_of(read_certs(rt.alloc(), fs::open(rt, cert)?))?;
-    let answer = passes(rt.alloc(), fs::open(rt, log)?, certificates.as_slice());
-    let yes = value_of(answer)?;
-    println!(rt; "passes: {yes}")
-}
-
-/// Shows what a walk tells of a stored log, and what the checker says of it with stored certificates.
-pub(crate) fn show_judged<R: Host>(rt: &R, log: &str, cert: &str) -> io::Result<()> {
-    println!(rt; "{log}")?;
-    show_walk(rt, log)?;
-    show_passes(rt, log, cert)
+/// Shows what the checker says of a stored log with stored certificates.
+pub(crate) fn show_passes<R: Files + Print + AllocGlobal>(rt: &R, files: &str) -> io::Result<()> {
+    let text = fs::open(rt, word(files, 1))?;
+    let certificates = value_of(read_certs(rt.alloc(), text))?;
+    show_answer(rt, word(files, 0), certificates.as_slice())
 }

