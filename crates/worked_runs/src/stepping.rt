@@ -1,12 +1,12 @@
 //! A world stepped by a loop of one's own, and a state that records the steps of a stored run.
 
-ghost use Rattle.std.specs.Prelude.{◌≡◌, ◌≢◌, ◌↔◌, true, IfOk, IfErr, IfSome, IsTrue};
+ghost use Rattle.std.specs.Prelude.{◌≡◌, ◌≢◌, ◌↔◌, true, IfOk, IfErr, IsTrue};
 ghost use Rattle.kt_core.specs.Worlds.{IsWorldAtRest};
 ghost use Rattle.kt_meaning.specs.Promised.{IsCertified};
 
 use crate::commands::{plan_in, steps_in, value_of, word};
 use crate::judging::log_passes;
-use anyhow::{Result, anyhow};
+use anyhow::{Result, ensure};
 use kt_base::ProcNo;
 use kt_certify::certify;
 use kt_core::{StepFault, World};
@@ -27,20 +27,9 @@ fn stepped(alloc: Global, scenario: &[u8]) -> Result<SpaceTime>
     ensures { IfOk result (λ log. IsCertified log.rows) }
 {
     let plan = parse(alloc, scenario)?;
-    match rested(World::new(alloc, plan)?) {
-        Some(log) => Ok(log),
-        None => Err(anyhow!("not at rest")),
-    }
-}
-
-/// The log of a world, stepped to rest by turns; None where a step is refused, or too many are to be made.
-fn rested(mut world: World) -> Option<SpaceTime>
-    ensures { IfSome result (λ log. IsCertified log.rows) }
-{
-    match step_by_turns(&mut world, MOST) {
-        Ok(true) => Some(world.into_log()),
-        _ => None,
-    }
+    let mut world = World::new(alloc, plan)?;
+    ensure!(step_by_turns(&mut world, MOST)?, "not at rest");
+    Ok(world.into_log())
 }
 
 /// The processes make a step each by turns, until all is at rest or so many turns were taken; whether it is at rest.
