@@ -1,31 +1,37 @@
-//! Stored cases: a title, and pieces of text.
+//! The cases of a file: each a title, a text under it, and behind that a line feed and a line that ends the case.
 
-use crate::entries::split_at_mark;
+const CASE_END: &[u8] = b"\n----\n";
 
-// What ends a title, and a case.
-const LINE_FEED: &[u8] = b"\n";
-
-/// What ends a piece.
+/// What ends a piece, where a text is made of pieces.
 pub(crate) const PIECE_END: &[u8] = b"====\n";
 
-const CASE_END: &[u8] = b"----\n";
-
-/// Pieces of text, and what they show.
+/// A text and what it shows.
 #[derive(Clone, Copy)]
 pub(crate) struct Case<'a> {
     pub(crate) title: &'a str,
-    pub(crate) pieces: &'a [u8],
+    pub(crate) text: &'a [u8],
+}
+
+// What stands before the first mark in these bytes, and what stands behind it; none where there is no mark.
+fn split_at_mark<'a>(bytes: &'a [u8], mark: &[u8]) -> Option<(&'a [u8], &'a [u8])> {
+    for place in 0..bytes.len() {
+        let (before, left) = bytes.split_at(place);
+        if let Some(behind) = left.strip_prefix(mark) {
+            return Some((before, behind));
+        }
+    }
+    None
 }
 
 /// The first case of a file, and what stands behind it; none where there is no more.
 pub(crate) fn next_case(bytes: &[u8]) -> Option<(Case<'_>, &[u8])> {
     let (whole, behind) = split_at_mark(bytes, CASE_END)?;
-    let (title, pieces) = split_at_mark(whole, LINE_FEED)?;
+    let (title, text) = split_at_mark(whole, b"\n")?;
     let title = std::str::from_utf8(title).ok()?;
-    Some((Case { title, pieces }, behind))
+    Some((Case { title, text }, behind))
 }
 
-/// The first piece, and the others; none where there is no more.
+/// The first piece of a text, and the others; none where there is no more.
 pub(crate) fn next_piece(pieces: &[u8]) -> Option<(&[u8], &[u8])> {
     split_at_mark(pieces, PIECE_END)
 }

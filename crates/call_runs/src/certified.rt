@@ -1,74 +1,62 @@
-//! The certificates and the reports of logs, from a list of rows and as a text is read.
+//! The certificates and the reports of stored logs, and how much a walk of them holds.
 
-ghost use Rattle.kt_chain.specs.Spelling.{HasShortChains};
-ghost use Rattle.std.specs.Prelude.{All};
-
-use crate::entries::Entry;
-use crate::failing_reads::{Reading, show_failing_reads};
+use crate::cases::Case;
 use crate::faults::{refused, value_of};
-use crate::run::feed;
-use crate::writing::{Form, show_written};
-use kt_certify::{certify, certify_stream};
-use kt_chain::write_certs;
+use crate::texts::{Form, Text, show_written};
+use crate::walks::feed;
+use kt_certify::certify_stream;
 use kt_log_text::read_csv;
 use kt_plan::Plan;
-use kt_spacetime::{Certificate, SpaceTime};
+use kt_spacetime::SpaceTime;
 use kt_walk::Walk;
+use std::alloc::Global;
 use std::io;
 
-// Shows how many messages a walk holds after each row of a legal log.
-fn show_held<R: Print + AllocGlobal>(rt: &R, log: &SpaceTime) -> io::Result<()> {
-    let mut walk = value_of(Walk::new(rt.alloc()))?;
-    print!(rt; "  held after each row:")?;
+// How many messages a walk holds after each row of a log.
+fn held_after_each(walk: &mut Walk, alloc: Global, log: &SpaceTime) -> io::Result<Vec<usize>> {
+    let mut held = Vec::new(alloc);
     for row in log.rows() {
-        value_of(feed(&mut walk, row))?;
-        print!(rt; " {}", walk.held())?;
+        value_of(feed(walk, row))?;
+        held.push(walk.held())?;
     }
-    println!(rt)
+    Ok(held)
 }
 
-// Shows certificates as they are written.
-fn show_list<R: Print + AllocGlobal>(rt: &R, title: &str, list: &[Certificate]) -> io::Result<()>
-    requires { All HasShortChains list.now }
-{
-    println!(rt; "{title}: {} certificates", list.len())?;
-    value_of(write_certs(rt.alloc(), list, &mut io::writer(rt)))
+// The same of a stored legal log.
+fn held_of(alloc: Global, text: &[u8]) -> io::Result<Vec<usize>> {
+    match (Walk::new(alloc), read_csv(alloc, text)) {
+        (Ok(mut walk), Ok(log)) => held_after_each(&mut walk, alloc, &log),
+        _ => refused(),
+    }
 }
 
-// Shows the certificates of a log, what is held after each of its rows, and its report; or why it has none.
-fn show_log<R: Print + AllocGlobal>(
+// Shows how many certificates a log has, what a walk of it holds, and its report.
+fn show_legal<R: Print + AllocGlobal>(
     rt: &R,
-    plan: &Plan,
-    entry: &Entry,
-    log: &SpaceTime,
+    title: &str,
+    text: &Text,
+    count: usize,
 ) -> io::Result<()> {
-    match certify(rt.alloc(), log) {
-        Ok(list) => show_list(rt, entry.title, list.as_slice())?,
-        Err(fault) => return println!(rt; "{}: {fault}", entry.title),
-    }
-    show_held(rt, log)?;
-    show_written(rt, Form::Report(plan), entry.text)
+    let held = held_of(rt.alloc(), text.bytes)?;
+    println!(rt; "{title}: {count} certificates\n  held after each row: {held:?}")?;
+    show_written(rt, text, b"")
 }
 
-// Shows how many certificates a log has as it is read, or why it has none.
-fn show_read<R: Print + AllocGlobal>(rt: &R, text: &[u8]) -> io::Result<()> {
-    match certify_stream(rt.alloc(), text) {
-        Ok(list) => println!(rt; "  as it is read: {} certificates", list.len()),
-        Err(fault) => println!(rt; "  as it is read: {fault}"),
-    }
-}
-
-/// Shows the certificates and the report of a stored log, over a plan, or why it has none; the certificates as it is read too,
-/// by readers that fail as well.
+/// Shows of a stored log how many certificates it has as it is read, what a walk of it holds, and its report as of a run of
+/// a plan; or why it has none, and at how many calls a reader may fail even then.
 pub(crate) fn show_certified<R: Print + AllocGlobal>(
     rt: &R,
     plan: &Plan,
-    entry: &Entry,
+    case: &Case,
 ) -> io::Result<()> {
-    match read_csv(rt.alloc(), entry.text) {
-        Ok(log) => show_log(rt, plan, entry, &log)?,
-        Err(_) => return refused(),
+    let (title, bytes) = (case.title, case.text);
+    let form = Form::Report(plan);
+    let text = Text { form, bytes };
+    match certify_stream(rt.alloc(), bytes) {
+        Ok(list) => show_legal(rt, title, &text, list.len()),
+        Err(fault) => {
+            let reads = text.count_read_faults(rt.alloc());
+            println!(rt; "{title}: {fault}; {reads} reads may fail")
+        }
     }
-    show_read(rt, entry.text)?;
-    show_failing_reads(rt, Reading::Certified, entry.text, "")
 }

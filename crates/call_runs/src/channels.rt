@@ -37,43 +37,28 @@ fn put(channels: &mut Channels, parcel: Parcel) -> io::Result<()>
     Ok(())
 }
 
-// Puts a message, an ask and a message into that channel.
-fn put_three(channels: &mut Channels) -> io::Result<()>
-    requires { channels.old.processes ≡ 2 }
-    ensures { channels.new.processes ≡ 2 }
-{
-    put(channels, message(3)?)?;
-    put(channels, ask(9)?)?;
-    put(channels, message(5)?)
-}
-
-// Takes out the messages with a label above 3; whether there is room for as many parcels as there are numbers.
-fn drop_and_ask(channels: &mut Channels) -> io::Result<bool>
-    requires { channels.old.processes ≡ 2 }
-    ensures { channels.new.processes ≡ 2 }
-{
-    let (from, to) = (ProcNo::nth(0), ProcNo::nth(1));
-    channels.drop_above(from, to, label_of(3)?);
-    Ok(channels.reserve_many(from, to, usize::MAX).is_ok())
-}
-
-// Shows what is left in both directions.
+// Shows which of a message, an ask and a message are left where messages with a label above 3 are taken out, and whether
+// there is room for as many parcels as there are numbers.
 fn show_left<R: Print>(rt: &R, channels: &mut Channels) -> io::Result<()>
     requires { channels.old.processes ≡ 2 }
 {
     let (from, to) = (ProcNo::nth(0), ProcNo::nth(1));
-    let (there, back) = (channels.len(from, to), channels.len(to, from));
+    put(channels, message(3)?)?;
+    put(channels, ask(9)?)?;
+    put(channels, message(5)?)?;
+    channels.drop_above(from, to, label_of(3)?);
+    let has_room = channels.reserve_many(from, to, usize::MAX).is_ok();
+    let count = channels.len(from, to);
     let (first, second) = (channels.pop(from, to), channels.pop(from, to));
-    println!(rt; "  {there} and {back}: {first:?}, {second:?}")
+    println!(rt;
+        "parcels above a label are taken out; with room for 2^64 more: {has_room}\n  {count}: {first:?}, {second:?}"
+    )
 }
 
-/// Shows which parcels stay where messages above a label are taken out, and that room that cannot be had is refused.
+/// Shows channels of two processes.
 pub(crate) fn show_channels<R: Print + AllocGlobal>(rt: &R) -> io::Result<()> {
-    let Ok(mut channels) = Channels::new(rt.alloc(), 2) else {
-        return refused();
-    };
-    put_three(&mut channels)?;
-    let is_there = drop_and_ask(&mut channels)?;
-    println!(rt; "parcels above a label are taken out; with room for 2^64 more: {is_there}")?;
-    show_left(rt, &mut channels)
+    match Channels::new(rt.alloc(), 2) {
+        Ok(mut channels) => show_left(rt, &mut channels),
+        Err(_) => refused(),
+    }
 }

@@ -2,9 +2,10 @@
 
 ghost use Rattle.std.specs.Prelude.{◌≤◌, ◌<◌};
 
-use crate::clusters::log_of;
-use crate::faults::{refused, value_of};
-use kt_base::{Kind, Label, ProcNo};
+use crate::faults::value_of;
+use crate::limits::label_of;
+use crate::runs::{log_of, parts_of};
+use kt_base::{Kind, ProcNo};
 use kt_certify::certify_stream;
 use kt_checker::check_stream;
 use kt_node::{Cluster, ClusterStep};
@@ -27,10 +28,8 @@ impl Draws {
         requires { 0 < bound }
         ensures { result < bound }
     {
-        self.0 = self
-            .0
-            .wrapping_mul(6_364_136_223_846_793_005)
-            .wrapping_add(1_442_695_040_888_963_407);
+        let product = self.0.wrapping_mul(6_364_136_223_846_793_005);
+        self.0 = product.wrapping_add(1_442_695_040_888_963_407);
         ((self.0 >> 33) % u64::from(bound)) as u8
     }
 
@@ -61,23 +60,28 @@ impl Draws {
     }
 }
 
-// The log of a drawn run of so many nodes, merged of their parts. What is refused changes nothing.
-fn drawn_log(alloc: Global, draws: &mut Draws, count: u8) -> io::Result<Vec<u8>>
+// Makes drawn steps of a cluster of so many nodes. What is refused changes nothing.
+fn run(cluster: &mut Cluster, alloc: Global, draws: &mut Draws, count: u8)
     requires { (0 < count) × (count ≤ 64) }
 {
-    let Some(none) = Label::new(0) else {
-        return refused();
-    };
-    let mut cluster = value_of(Cluster::new(alloc, usize::from(count), none))?;
     for _ in 0..STEPS {
         let step = draws.step(count);
         let _ = cluster.step(alloc, &step);
     }
-    log_of(alloc, &cluster, count, true)
+}
+
+// The log of a drawn run of so many nodes, merged of their parts.
+fn drawn_log(alloc: Global, draws: &mut Draws, count: u8) -> io::Result<Vec<u8>>
+    requires { (0 < count) × (count ≤ 64) }
+{
+    let mut cluster = value_of(Cluster::new(alloc, usize::from(count), label_of(0)?))?;
+    run(&mut cluster, alloc, draws, count);
+    let parts = parts_of(alloc, &cluster, count)?;
+    log_of(alloc, parts.as_slice())
 }
 
 // How many certificates a log has, where the checker says yes to it with them.
-fn count_passed(alloc: Global, log: &[u8]) -> io::Result<Option<usize>> {
+fn count_certificates(alloc: Global, log: &[u8]) -> io::Result<Option<usize>> {
     let certificates = value_of(certify_stream(alloc, log))?;
     match value_of(check_stream(alloc, log, certificates.as_slice()))? {
         Verdict::Yes => Ok(Some(certificates.len())),
@@ -88,11 +92,10 @@ fn count_passed(alloc: Global, log: &[u8]) -> io::Result<Option<usize>> {
 /// Draws runs of clusters, merges their parts, and shows how many logs are judged yes, and how many certificates they have.
 pub(crate) fn show_drawn<R: Print + AllocGlobal>(rt: &R) -> io::Result<()> {
     let mut draws = Draws(1987);
-    let mut passed: u32 = 0;
-    let mut certificates: usize = 0;
+    let (mut passed, mut certificates): (usize, usize) = (0, 0);
     for run in 0..RUNS {
         let log = drawn_log(rt.alloc(), &mut draws, 2 + (run % 5) as u8)?;
-        if let Some(count) = count_passed(rt.alloc(), log.as_slice())? {
+        if let Some(count) = count_certificates(rt.alloc(), log.as_slice())? {
             passed = passed.saturating_add(1);
             certificates = certificates.saturating_add(count);
         }

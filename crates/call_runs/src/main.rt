@@ -3,49 +3,35 @@
 #![tactic(auto)]
 
 mod cases;
-mod certificates;
 mod certified;
 mod channels;
-mod clusters;
 mod drawn;
-mod entries;
 mod failing;
-mod failing_reads;
 mod faults;
-mod instances;
+mod files;
 mod limits;
-mod logs;
 mod long_logs;
-mod long_text;
-mod merge_limits;
 mod merging;
 mod net;
 mod node_steps;
-mod nodes;
 mod objects;
-mod parts;
 mod plain;
-mod run;
-mod scenarios;
+mod runs;
 mod slots;
-mod stored;
 mod tables;
 mod texts;
-mod writing;
-mod written_parts;
+mod told;
+mod walks;
 
 use channels::show_channels;
 use drawn::show_drawn;
+use files::show_files;
 use limits::show_limits;
 use long_logs::show_long_logs;
-use merge_limits::show_merge_limits;
-use nodes::show_nodes;
 use objects::show_objects;
 use slots::show_slots;
 use std::io;
-use stored::{show_clusters, show_merges, show_stored_parts};
 use tables::show_tables;
-use texts::show_texts;
 
 fn main(rt: HostRuntime) -> io::Result<()> {
     show_limits(&rt)?;
@@ -54,11 +40,6 @@ fn main(rt: HostRuntime) -> io::Result<()> {
     show_objects(&rt)?;
     show_slots(&rt)?;
     show_long_logs(&rt)?;
-    show_texts(&rt)?;
-    show_merges(&rt)?;
-    show_merge_limits(&rt)?;
-    show_stored_parts(&rt)?;
-    show_nodes(&rt)?;
-    show_clusters(&rt)?;
+    show_files(&rt)?;
     show_drawn(&rt)
 }

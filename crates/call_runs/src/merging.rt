@@ -1,116 +1,110 @@
 //! What is merged of stored parts, and the line of a fault.
 
-ghost use Rattle.std.specs.Prelude.{◌≤◌, length, IfOk, OnOk};
+ghost use Rattle.std.specs.Prelude.{◌≤◌, length, IfOk};
 ghost use Rattle.kt_merge.specs.Merging.{ArePartsUnread};
 
 use crate::cases::{Case, next_piece};
-use crate::failing::FailingWriter;
-use crate::faults::{refused, value_of};
+use crate::failing::FailingReader;
+use crate::faults::refused;
+use crate::texts::{Form, Text, show_written};
+use kt_base::ProcNo;
 use kt_merge::{Giver, MergeFault, Parts, merge_parts};
 use std::alloc::Global;
 use std::io;
-use std::io::{Read, Write};
+use std::io::Write;
 
-// The parts that these pieces are, at most 64.
-fn parts_of(alloc: Global, pieces: &[u8]) -> io::Result<Parts<&[u8]>>
+/// How many bytes of a part, and of a log that is merged, are given and taken a call.
+pub(crate) const BYTES_OF_PARTS: usize = 30;
+
+// The parts that these pieces are, at most 64; each reader fails at this call.
+fn parts_of(
+    alloc: Global,
+    pieces: &[u8],
+    fails_at: usize,
+) -> Result<Parts<FailingReader<'_>>, MergeFault>
     ensures { IfOk result (λ parts. ArePartsUnread parts × (length parts ≤ 64)) }
 {
     let mut parts = Parts::new(alloc);
     let mut left = pieces;
     for _ in 0..64 {
-        match next_piece(left) {
-            Some((piece, behind)) => {
-                add(alloc, &mut parts, piece)?;
-                left = behind;
-            }
-            None => return Ok(parts),
+        if parts.count() >= 64 {
+            break;
         }
+        let Some((piece, behind)) = next_piece(left) else {
+            break;
+        };
+        parts.push(alloc, FailingReader::new(piece, BYTES_OF_PARTS, fails_at))?;
+        left = behind;
     }
     Ok(parts)
 }
 
-/// Adds a part, if there are fewer than 64.
-pub(crate) fn add<R: Read + Drop>(alloc: Global, parts: &mut Parts<R>, reader: R) -> io::Result<()>
-    ensures { OnOk result (ArePartsUnread parts.old → ArePartsUnread parts.new × (length parts.new ≤ 64)) }
-{
-    if parts.count() >= 64 {
-        return refused();
-    }
-    match parts.push(alloc, reader) {
-        Ok(()) => Ok(()),
-        Err(_) => refused(),
-    }
-}
-
-/// Merges the parts of these pieces.
+/// Merges the parts of these pieces, each of whose readers fails at this call.
 pub(crate) fn merge<W: Write>(
     alloc: Global,
     pieces: &[u8],
+    fails_at: usize,
     writer: &mut W,
-) -> io::Result<Result<(), MergeFault>> {
-    let mut parts = parts_of(alloc, pieces)?;
-    Ok(merge_parts(alloc, &mut parts, writer))
+) -> Result<(), MergeFault> {
+    let mut parts = parts_of(alloc, pieces, fails_at)?;
+    merge_parts(alloc, &mut parts, writer)
 }
 
-// Whether a writer that takes 100 bytes a call and fails at this one is a write fault; what it holds then has to be a
-// beginning of the log.
-fn fails_at(alloc: Global, pieces: &[u8], log: &[u8], call: usize) -> io::Result<bool> {
-    let mut writer = FailingWriter::new(Vec::new(alloc), 100, call);
-    match merge(alloc, pieces, &mut writer)? {
-        Ok(()) => Ok(false),
-        Err(MergeFault::Write) if log.starts_with(writer.held()) => Ok(true),
-        Err(_) => refused(),
-    }
-}
-
-// At how many calls in turn it is a write fault.
-fn count_faults(alloc: Global, pieces: &[u8], log: &[u8]) -> io::Result<usize> {
-    for call in 0..log.len() {
-        if !fails_at(alloc, pieces, log, call)? {
-            return Ok(call);
-        }
-    }
-    refused()
-}
-
-/// Shows the log of stored parts, whether it is the stored one, and at how many calls a writer may fail.
-pub(crate) fn show_run<R: Print + AllocGlobal>(rt: &R, case: &Case) -> io::Result<()> {
-    let Some((stored, pieces)) = next_piece(case.pieces) else {
+/// Shows whether the log of stored parts is the stored one, and each part is written as it was read.
+pub(crate) fn show_merged<R: Print + AllocGlobal>(rt: &R, case: &Case) -> io::Result<()> {
+    println!(rt; "{}", case.title)?;
+    let Some((stored, bytes)) = next_piece(case.text) else {
         return refused();
     };
-    let mut log = Vec::new(rt.alloc());
-    value_of(merge(rt.alloc(), pieces, &mut log)?)?;
-    let log = log.as_slice();
-    println!(rt; "{}", case.title)?;
-    io::writer(rt).write_all(log)?;
-    let faults = count_faults(rt.alloc(), pieces, log)?;
-    println!(rt;
-        "  as it is stored: {}; write faults: {faults}",
-        log == stored
-    )
-}
-
-/// Shows the fault that is met in stored parts, and what was written before.
-pub(crate) fn show_merge_fault<R: Print + AllocGlobal>(rt: &R, case: &Case) -> io::Result<()> {
-    let mut log = Vec::new(rt.alloc());
-    let mut parts = parts_of(rt.alloc(), case.pieces)?;
-    println!(rt; "{}", case.title)?;
-    match merge_parts(rt.alloc(), &mut parts, &mut log) {
-        Ok(()) => io::writer(rt).write_all(log.as_slice())?,
-        Err(fault) => println!(rt; "  {fault}")?,
+    let form = Form::Parts;
+    show_written(rt, &Text { form, bytes }, stored)?;
+    let mut left = bytes;
+    for number in 0..ProcNo::COUNT {
+        let Some((bytes, behind)) = next_piece(left) else {
+            return Ok(());
+        };
+        let form = Form::Part(ProcNo::nth(number));
+        show_written(rt, &Text { form, bytes }, bytes)?;
+        left = behind;
     }
-    show_giver(rt, &mut parts)?;
-    println!(rt; "  {} bytes are written", log.len())
+    Ok(())
 }
 
-// Shows the row that gives the name for which a merge stopped, if it stopped for one.
-fn show_giver<R: Print>(rt: &R, parts: &mut Parts<&[u8]>) -> io::Result<()> {
+// Which row gives the name for which a merge stopped, if it stopped for one.
+fn giver_of(alloc: Global, parts: &mut Parts<FailingReader>) -> io::Result<String> {
     match parts.giver() {
         Giver::Last(p) => {
             let count = parts.reader(p).map_or(0, |reader| reader.count());
-            println!(rt; "  part {p} record {count} gives it")
+            Ok(format!(in alloc; ", part {p} record {count} gives it")?)
         }
-        Giver::Nowhere => println!(rt; "  no part gives it"),
-        Giver::Unknown => Ok(()),
+        Giver::Nowhere => Ok(String::from_str(alloc, ", no part gives it")?),
+        Giver::Unknown => Ok(String::new(alloc)),
     }
+}
+
+// Merges parts, and shows the fault that is met, and how much was written before.
+fn show_stop<R: Print + AllocGlobal>(
+    rt: &R,
+    title: &str,
+    parts: &mut Parts<FailingReader>,
+) -> io::Result<()>
+    requires unread { ArePartsUnread parts.old }
+    requires few { length parts.old ≤ 64 }
+{
+    let mut log = Vec::new(rt.alloc());
+    let merged = merge_parts(rt.alloc(), parts, &mut log);
+    let giver = giver_of(rt.alloc(), parts)?;
+    let bytes = log.len();
+    match merged {
+        Ok(()) => println!(rt; "{title}: {bytes} bytes are written"),
+        Err(fault) => println!(rt; "{title}: {fault}{giver}; {bytes} bytes are written"),
+    }
+}
+
+/// Shows the fault that is met in stored parts.
+pub(crate) fn show_merge_fault<R: Print + AllocGlobal>(rt: &R, case: &Case) -> io::Result<()> {
+    let Ok(mut parts) = parts_of(rt.alloc(), case.text, usize::MAX) else {
+        return refused();
+    };
+    show_stop(rt, case.title, &mut parts)
 }

@@ -2,7 +2,8 @@
 //! after each of its steps, as by a program that is killed there.
 
 use crate::faults::{refused, value_of};
-use kt_base::{Label, ProcNo};
+use crate::limits::label_of;
+use kt_base::ProcNo;
 use kt_node::{ClusterStep, Envelope, Input, Node, NodeFault, Output, Taken};
 use kt_node_text::{load, save};
 use kt_plan::Look;
@@ -54,9 +55,7 @@ impl OnWay {
 impl Net {
     /// Nodes that have done nothing.
     pub(crate) fn new(alloc: Global) -> io::Result<Net> {
-        let Some(none) = Label::new(0) else {
-            return refused();
-        };
+        let none = label_of(0)?;
         let mut nodes = Vec::new(alloc);
         for number in 0..COUNT {
             let me = ProcNo::nth(number);

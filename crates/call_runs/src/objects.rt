@@ -2,7 +2,7 @@
 
 use crate::faults::value_of;
 use kt_base::ProcNo;
-use kt_object::{Last, Recoverable, SlotBook, SlotGuard, Sum, Tail};
+use kt_object::{Last, Recoverable, SlotBook, Sum, Tail};
 use std::io;
 
 // Shows the state of an object that took these bodies in, and whether a spare one takes it.
@@ -17,24 +17,20 @@ fn show_state<R: Print + AllocGlobal, O: Recoverable>(
     }
     let mut state = Vec::new(rt.alloc());
     value_of(object.save(&mut state))?;
-    let (kind, offered) = (object.kind(), object.offer());
-    println!(rt; "  kind {kind}, offers {offered}, saved {state:?}")?;
-    let answer = spare.restore(state.as_slice());
-    let offered = spare.offer();
-    println!(rt; "  restored {answer:?}, offers {offered}")
-}
-
-fn guard(book: &mut SlotBook) -> io::Result<SlotGuard> {
-    value_of(book.open())
+    value_of(spare.restore(state.as_slice()))?;
+    let (kind, offered, restored) = (object.kind(), object.offer(), spare.offer());
+    println!(rt; "  kind {kind}, offers {offered}, restored {restored}, saved {state:?}")
 }
 
 fn show_sum<R: Print + AllocGlobal>(rt: &R, book: &mut SlotBook) -> io::Result<()> {
-    let (mut object, mut spare) = (Sum::new(guard(book)?), Sum::new(guard(book)?));
+    let mut object = Sum::new(value_of(book.open())?);
+    let mut spare = Sum::new(value_of(book.open())?);
     show_state(rt, &mut object, &mut spare, &[7, -2])
 }
 
 fn show_last<R: Print + AllocGlobal>(rt: &R, book: &mut SlotBook) -> io::Result<()> {
-    let (mut object, mut spare) = (Last::new(guard(book)?), Last::new(guard(book)?));
+    let mut object = Last::new(value_of(book.open())?);
+    let mut spare = Last::new(value_of(book.open())?);
     show_state(rt, &mut object, &mut spare, &[3, i64::MAX])
 }
 
@@ -43,11 +39,12 @@ fn show_tail<R: Print + AllocGlobal>(
     book: &mut SlotBook,
     bodies: &[i64],
 ) -> io::Result<()> {
-    let (mut object, mut spare) = (Tail::new(guard(book)?), Tail::new(guard(book)?));
+    let mut object = Tail::new(value_of(book.open())?);
+    let mut spare = Tail::new(value_of(book.open())?);
     show_state(rt, &mut object, &mut spare, bodies)
 }
 
-/// Shows saved states of each kind of object, and that a spare object of the kind takes each.
+/// Shows saved states of each kind of object, and what a spare object of the kind offers that took each.
 pub(crate) fn show_objects<R: Print + AllocGlobal>(rt: &R) -> io::Result<()> {
     let mut book = SlotBook::new(rt.alloc());
     println!(rt; "saved states")?;

@@ -2,6 +2,7 @@
 
 use crate::faults::value_of;
 use kt_object::{Recoverable, SlotBook, Sum};
+use std::alloc::Global;
 use std::io;
 
 // The orders in which eight objects are dropped.
@@ -15,48 +16,50 @@ const ORDERS: [[usize; 8]; 4] = [
 // Opens eight slots, each for an object.
 fn open_eight(book: &mut SlotBook, objects: &mut Vec<Option<Sum>>) -> io::Result<()> {
     for _ in 0..8 {
-        let guard = value_of(book.open())?;
-        value_of(objects.push(Some(Sum::new(guard))))?;
+        value_of(objects.push(Some(Sum::new(value_of(book.open())?))))?;
     }
     Ok(())
 }
 
-// Shows the slots of the objects that are kept.
-fn show_slots_of<R: Print>(rt: &R, objects: &[Option<Sum>]) -> io::Result<()> {
-    print!(rt; "  slots")?;
-    for object in objects {
-        if let Some(object) = object {
-            print!(rt; " {}", object.slot())?;
+// Drops four objects in this order; after how many drops one slot is freed, and none once more.
+fn drop_four(book: &mut SlotBook, objects: &mut Vec<Option<Sum>>, order: &[usize]) -> u32 {
+    let mut count: u32 = 0;
+    for place in order.iter().take(4) {
+        if let Some(object) = objects.get_mut(*place) {
+            *object = None;
         }
+        let (freed, again) = (book.collect(), book.collect());
+        count = count.saturating_add(u32::from(freed == 1 && again == 0));
     }
-    println!(rt)
+    count
 }
 
-// Shows how many slots are freed and how many are out then, and how many are freed once more.
-fn show_freed<R: Print>(rt: &R, book: &mut SlotBook) -> io::Result<()> {
-    let (freed, out, again) = (book.collect(), book.out(), book.collect());
-    println!(rt; "  freed {freed}, out {out}, then {again}")
+// The slots of the objects that are kept.
+fn slots_of(alloc: Global, objects: &[Option<Sum>]) -> io::Result<Vec<usize>> {
+    let mut slots = Vec::new(alloc);
+    for object in objects.iter().flatten() {
+        slots.push(object.slot())?;
+    }
+    Ok(slots)
 }
 
-// Drops objects in this order, shows how many slots are freed after each of the first four, and who has which slots when
-// eight more are opened.
-fn show_order<R: Print>(
+// Drops four of eight objects in this order, opens eight more, and drops all: shows after how many of the four drops a slot
+// is freed, who has which slots then, and how many are freed at the end.
+fn show_order<R: Print + AllocGlobal>(
     rt: &R,
     book: &mut SlotBook,
     objects: &mut Vec<Option<Sum>>,
     order: &[usize],
 ) -> io::Result<()> {
     open_eight(book, objects)?;
-    for place in order.iter().take(4) {
-        if let Some(object) = objects.get_mut(*place) {
-            *object = None;
-        }
-        show_freed(rt, book)?;
-    }
+    let count = drop_four(book, objects, order);
     open_eight(book, objects)?;
-    show_slots_of(rt, objects.as_slice())?;
+    let slots = slots_of(rt.alloc(), objects.as_slice())?;
     objects.clear();
-    show_freed(rt, book)
+    let (freed, out) = (book.collect(), book.out());
+    println!(rt;
+        "objects are dropped in the order {order:?}: {count} free a slot\n  slots {slots:?}, freed {freed}, out {out}"
+    )
 }
 
 /// Shows which slots are freed, and used again, where objects are dropped in some orders.
@@ -64,7 +67,6 @@ pub(crate) fn show_slots<R: Print + AllocGlobal>(rt: &R) -> io::Result<()> {
     let mut book = SlotBook::new(rt.alloc());
     let mut objects = Vec::new(rt.alloc());
     for order in &ORDERS {
-        println!(rt; "objects are dropped in the order {order:?}")?;
         show_order(rt, &mut book, &mut objects, order)?;
     }
     Ok(())

@@ -1,6 +1,6 @@
-//! Label tables: what those of two processes answer, and how many labels those of 64 keep.
+//! Label tables of two processes and of 64: how many labels they keep, and how many processes are asked.
 
-ghost use Rattle.std.specs.Prelude.{◌<◌, ◌↔◌, IsTrue};
+ghost use Rattle.std.specs.Prelude.{◌≤◌, ◌<◌, ◌↔◌, IsTrue};
 
 use crate::faults::{refused, value_of};
 use crate::limits::label_of;
@@ -15,99 +15,62 @@ fn is_there(tables: &Tables, p: ProcNo) -> bool
     p.index() < tables.processes()
 }
 
-fn send(tables: &mut Tables, to: ProcNo, number: u64) -> io::Result<()> {
+// Notes a message to a process and one from it, with this label.
+fn note(tables: &mut Tables, p: ProcNo, number: u64) -> io::Result<()> {
     let label = label_of(number)?;
-    let may = is_there(tables, to) && tables.can_send(to, label);
-    if !may {
+    if !is_there(tables, p) || !tables.can_send(p, label) {
         return refused();
     }
-    tables.sent(to, label);
+    tables.sent(p, label);
+    if !is_there(tables, p) || !tables.can_receive(p, label) {
+        return refused();
+    }
+    tables.received(p, label);
     Ok(())
 }
 
-fn receive(tables: &mut Tables, from: ProcNo, number: u64) -> io::Result<()> {
-    let label = label_of(number)?;
-    let may = is_there(tables, from) && tables.can_receive(from, label);
-    if !may {
+// Takes a tentative checkpoint, and commits or undoes it; how many labels are kept then.
+fn decide(tables: &mut Tables, commit: bool) -> io::Result<usize> {
+    if tables.is_tentative() {
         return refused();
     }
-    tables.received(from, label);
-    Ok(())
-}
-
-// Takes a tentative checkpoint, or commits or undoes the one that there is.
-fn decide(tables: &mut Tables, decision: Option<bool>) -> io::Result<()> {
-    match (tables.is_tentative(), decision) {
-        (false, None) => tables.on_tentative(),
-        (true, Some(true)) => tables.on_commit(),
-        (true, Some(false)) => tables.on_abort(),
-        _ => return refused(),
+    tables.on_tentative();
+    if commit {
+        tables.on_commit();
+    } else {
+        tables.on_abort();
     }
-    Ok(())
+    Ok(tables.kept())
 }
 
-// Shows whether a process that is asked with this label by a peer has to take part in a checkpoint, and in a rollback.
-fn show_label<R: Print>(rt: &R, tables: &Tables, peer: ProcNo, number: u64) -> io::Result<()> {
-    let label = label_of(number)?;
-    if !is_there(tables, peer) {
-        return refused();
+// Shows how many labels so many processes keep of a message to each and from each, and how many of them are asked.
+fn show<R: Print>(rt: &R, tables: &mut Tables, processes: u8) -> io::Result<()>
+    requires { processes ≤ 64 }
+{
+    for number in 0..processes {
+        note(tables, ProcNo::nth(number), 1)?;
     }
-    let takes = tables.must_take(peer, label);
-    let rolls = tables.must_roll(peer, label);
-    println!(rt; "  at {number}: takes {takes}, rolls {rolls}")
+    let kept = tables.kept();
+    let takes = value_of(tables.ckpt_cohort())?.len();
+    let rolls = value_of(tables.roll_cohort())?.len();
+    let undone = decide(tables, false)?;
+    let committed = decide(tables, true)?;
+    println!(rt;
+        "label tables of {processes} processes: kept {kept}, asked {takes} and {rolls}, undone {undone}, committed {committed}"
+    )
 }
 
-// Shows whom to ask, how many labels are kept, and at which labels the process has to take part itself.
-fn show<R: Print>(rt: &R, tables: &Tables, peer: ProcNo) -> io::Result<()> {
-    let asked = value_of(tables.ckpt_cohort())?;
-    println!(rt; "to ask at a checkpoint {asked:?}")?;
-    let asked = value_of(tables.roll_cohort())?;
-    println!(rt; "to ask at a rollback {asked:?}")?;
-    for number in 4..11 {
-        show_label(rt, tables, peer, number)?;
+fn show_fresh<R: Print + AllocGlobal>(rt: &R, processes: u8) -> io::Result<()>
+    requires { processes ≤ 64 }
+{
+    match Tables::new(rt.alloc(), usize::from(processes)) {
+        Ok(mut tables) => show(rt, &mut tables, processes),
+        Err(_) => refused(),
     }
-    println!(rt; "kept {}", tables.kept())
-}
-
-// Shows tables of two processes after each of five groups of calls.
-fn show_two<R: Print>(rt: &R, tables: &mut Tables, peer: ProcNo) -> io::Result<()> {
-    send(tables, peer, 7)?;
-    send(tables, peer, 9)?;
-    receive(tables, peer, 5)?;
-    show(rt, tables, peer)?;
-    decide(tables, None)?;
-    show(rt, tables, peer)?;
-    receive(tables, peer, 8)?;
-    decide(tables, Some(false))?;
-    show(rt, tables, peer)?;
-    decide(tables, None)?;
-    decide(tables, Some(true))?;
-    show(rt, tables, peer)?;
-    send(tables, peer, 10)?;
-    show(rt, tables, peer)
-}
-
-// Shows how many labels are kept, of a message to each of 64 processes and from each.
-fn show_many<R: Print>(rt: &R, tables: &mut Tables) -> io::Result<()> {
-    for number in 0..ProcNo::COUNT {
-        send(tables, ProcNo::nth(number), 1)?;
-        receive(tables, ProcNo::nth(number), 1)?;
-    }
-    let all = tables.kept();
-    decide(tables, None)?;
-    decide(tables, Some(false))?;
-    let undone = tables.kept();
-    decide(tables, None)?;
-    decide(tables, Some(true))?;
-    println!(rt; "kept {all}, undone {undone}, committed {}", tables.kept())
 }
 
 /// Shows label tables of two processes, and of 64.
 pub(crate) fn show_tables<R: Print + AllocGlobal>(rt: &R) -> io::Result<()> {
-    println!(rt; "label tables of two processes")?;
-    let mut tables = value_of(Tables::new(rt.alloc(), 2))?;
-    show_two(rt, &mut tables, ProcNo::nth(1))?;
-    println!(rt; "label tables of 64 processes")?;
-    let mut tables = value_of(Tables::new(rt.alloc(), 64))?;
-    show_many(rt, &mut tables)
+    show_fresh(rt, 2)?;
+    show_fresh(rt, 64)
 }
