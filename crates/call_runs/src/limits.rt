@@ -2,6 +2,7 @@
 
 use crate::faults::refused;
 use kt_base::{InstNo, Label, Labels, ProcNo, RowNo};
+use kt_merge::{PartFault, RowFault};
 use kt_node::{ManagerFault, NodeFault};
 use kt_node_text::LoadFault;
 use kt_object::{ActFault, CastFault, RestoreFault, SaveFault};
@@ -40,7 +41,9 @@ fn show_faults<R: Print>(rt: &R, k: InstNo, p: ProcNo) -> io::Result<()> {
     show_words(rt, &[LegalFault::Broken(RowNo::after(2), Rule::Order)])?;
     show_words(rt, &[CertFault::NoChain(k, p), CertFault::Memory])?;
     show_words(rt, &[ManagerFault::LabelsSpent, ManagerFault::CountsSpent])?;
-    show_words(rt, &[NodeFault::ClockSpent])
+    show_words(rt, &[NodeFault::ClockSpent])?;
+    show_words(rt, &[RowFault::TooManyRows, RowFault::TooManyInstances])?;
+    show_words(rt, &[PartFault::TooLong, PartFault::Read])
 }
 
 /// Shows which labels a counter gives after the last label but one, and the words of faults.
