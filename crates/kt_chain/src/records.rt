@@ -208,7 +208,7 @@ fn place(
     Ok(())
 }
 
-// CertificateTaken the fields after the word of a record of an instance: a certificate with no member yet.
+// Takes the fields after the word of a record of an instance: a certificate with no member yet.
 fn take_instance(
     alloc: Global,
     certificates: &mut Vec<Certificate>,
@@ -225,7 +225,7 @@ fn take_instance(
     Ok(())
 }
 
-// CertificateTaken the fields after the word of a member's record: one more member of the last certificate.
+// Takes the fields after the word of a member's record: one more member of the last certificate.
 fn take_member(
     alloc: Global,
     certificates: &mut Vec<Certificate>,
@@ -249,7 +249,7 @@ fn take_member(
     place(certificates, inst, process, chain)
 }
 
-// CertificateTaken the word of a record and the fields after it.
+// Takes the word of a record and the fields after it.
 fn take_fields(
     alloc: Global,
     certificates: &mut Vec<Certificate>,
@@ -271,7 +271,7 @@ fn take_fields(
     Err(RecordFault::Word)
 }
 
-/// CertificateTaken a record: a certificate, or a member of the last one.
+/// Takes a record: a certificate, or a member of the last one.
 pub(crate) fn take_record(
     alloc: Global,
     certificates: &mut Vec<Certificate>,

@@ -14,7 +14,7 @@ use Rattle.kt_promises.specs.Told.{rows_along}
 use Rattle.kt_run.specs.Objects.{rules_by}
 use Rattle.kt_run.specs.OneRun.{SavesAll}
 
--- progress_of_runs: next; steps_of_runs: none, of_another; never_stuck: exactly; told_of_runs: log; one_run: ends
+-- `progress_of_runs`: next; `steps_of_runs`: none, `of_another`; `never_stuck`: exactly; `told_of_runs`: log; `one_run`: ends
 pub record RunLaws : Type 0 where
   pub next : (plan : Planned) (first : ℕ) (w : Progress) (x : Step) (give : Give) → IsPlan plan → RunReaches plan first w → enabled plan w x ≡ true → RunReaches plan first (progress_after plan w x give)
   pub none : (plan : Planned) (first : ℕ) (w : Progress) → IsPlan plan → RunReaches plan first w → (default_step plan w ≡ None) ↔ ((x : Step) → enabled plan w x ≡ false)

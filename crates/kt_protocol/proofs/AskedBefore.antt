@@ -16,7 +16,7 @@ use Rattle.kt_protocol.specs.Messages.{after_refusal, after_failing, after_holdi
 use Rattle.kt_protocol.specs.Deciding.{after_deciding_as, after_decision, after_closing_rollback, after_closing_checkpoint}
 use Rattle.kt_protocol.specs.Joining.{after_began, after_joining_rollback, after_joining_checkpoint}
 
--- more of what after_holding at each point of a step
+-- more of what holds at each point of a step
 pub record AskedBefore (s : State) : Type 0 where
   pub asked_awaits : (k p q : ℕ) → s.awaits k p q ≡ true → s.asked k p q ≡ true
   pub asked_parent : (k q : ℕ) → s.so_far.joined k q ≡ true → q ≢ s.initiator k → s.asked k (s.parent k q) q ≡ true

@@ -95,7 +95,7 @@ checkpoint_cut_consistent s k g d r w all_await_none m a l = at_test (s.so_far.j
     at_test true e = sent_within_cut s k g d r w all_await_none m a e (grind (arith, l, e))
     at_test false e = grind (arith, nat_tests, l, g.consistent.sent_permanently m a, g.positions.permanent_new k (s.so_far.from m))
 
--- where nobody is awaited, what a member would undo is received_by_members but at members
+-- where nobody is awaited, what a member would undo is received nowhere but at members
 pub received_by_members : (s : State) (k : ℕ) → Invariant s → s.so_far.is_decided k ≡ false → s.so_far.is_rollback k ≡ true → s.so_far.has_unwilling k ≡ false → ((u v : ℕ) → s.awaits k u v ≡ false) → (m : ℕ) → s.so_far.is_sent m ≡ true → is_undone s.so_far k m ≡ true →
     (weigh (is_message m) (s.channel (s.so_far.from m) (s.so_far.to m)) ≡ 0) × (((s.so_far.joined k (s.so_far.to m) ≡ true) × (s.noted k (s.so_far.to m) (s.so_far.from m) ≡ true)) ⊎ ((s.so_far.is_received m ≡ false) × (weigh (is_message m) (s.held (s.so_far.from m) (s.so_far.to m)) ≡ 0)))
 received_by_members s k g d r w all_await_none m a u = let f = two u in elim (g.consistent.undone_or_asked k m d r w f.0 a f.1) [

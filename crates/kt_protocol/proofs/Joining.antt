@@ -10,7 +10,7 @@ use Rattle.kt_protocol.proofs.Invariant.{Invariant, is_message, is_ask, is_child
 use Rattle.kt_protocol.proofs.Updates.{is_other, is_same}
 use Rattle.kt_protocol.proofs.Weights.{behind, weigh}
 
--- p takes part in k: by its own beginning (is_first), or by the ask of par that was taken out of the channels
+-- p takes part in k: by its own beginning (`is_first`), or by the ask of par that was taken out of the channels
 pub record Joining (s : State) (channel : Lists) (p k : ℕ) (is_first : Bool) (par lnk lbl : ℕ) (roll : Bool) : Type 0 where
   pub closed : s.so_far.open_in p ≡ 0
   pub positive : 0 < k

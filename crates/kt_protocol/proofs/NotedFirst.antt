@@ -110,7 +110,7 @@ before_decisions i channel asked p k c u v h = at_if (λ l. before i l ≡ 0) (u
 abbrev pub none_out : ℕ → Bool
 none_out u = false
 
--- who has noted a sender after_take no message of it before its decision
+-- who has noted a sender takes no message of it before its decision
 pub record NotedFirst (s : State) (out : ℕ → Bool) : Type 0 where
   pub left_is : (k y : ℕ) → s.so_far.joined k y ≡ true → s.so_far.open_in y ≢ k → s.has_closed k y ≡ true
   pub told_all : (k y p : ℕ) → 0 < k → s.has_closed k y ≡ true → s.asked k y p ≡ true → s.so_far.open_in p ≡ k → out p ≡ false → 0 < weigh (is_told k) (s.channel y p)
@@ -223,7 +223,7 @@ noted_first_answering s p k t = record {
   before_is = λ i u y a b c d. before_with_parcel i s.channel p (s.parent k p) (Reply k (s.all_willing k p)) refl y u (t.before_is i u y a b c d);
 }
 
--- p after_noting an asker, whose ask has no message behind it
+-- p notes an asker, whose ask has no message behind it
 pub noted_first_noting : (s : State) (p q k l : ℕ) → s.so_far.joined k p ≡ true → s.asked k q p ≡ true → before k (s.channel q p) ≡ 0 → NotedFirst s none_out → NotedFirst (after_noting s p q k l) none_out
 noted_first_noting s p q k l j x z t = record {
   left_is = t.left_is;
@@ -248,7 +248,7 @@ noted_first_deciding s p k true true t = record { left_is = t.left_is; told_all 
 other_of : (k p : ℕ) (c : Bool) (i u : ℕ) → (u ≡ p → i ≢ k) → u ≡ p → is_told i (Decide k c) ≡ 0
 other_of k p c i u f e = let n = is_other k i (λ x. f e (sym x)) in rw n refl
 
--- p after_take a decision out
+-- p takes a decision out
 pub noted_first_decision : (s : State) (p q k : ℕ) (c : Bool) (rest : List Parcel) → s.channel q p ≡ Decide k c ∷ rest → (out : ℕ → Bool) → ((u : ℕ) → out u ≡ false → u ≡ p → s.so_far.open_in p ≢ k) → NotedFirst s none_out → NotedFirst (after_decision s p q rest) out
 noted_first_decision s p q k c rest e out n t = record {
   left_is = t.left_is;
@@ -291,7 +291,7 @@ noted_first_closing s p k c o t = go c (s.so_far.is_rollback k)
     go true false = record { left_is = left; told_all = told true; noted_asked = t.noted_asked; before_is = prior true }
     go false false = record { left_is = left; told_all = told false; noted_asked = t.noted_asked; before_is = prior false }
 
--- p after_take part in k; what it has noted is now n
+-- p takes part in k; what it has noted is now n
 module _ (s : State) (new : Lists) (x : ℕ → Bool) (n : ℕ → ℕ → ℕ → Bool) (p k : ℕ)
     (closed : s.so_far.open_in p ≡ 0) (positive : (i : ℕ) → s.so_far.joined i p ≡ true → 0 < i) (out : s.so_far.joined k p ≡ false)
     (asked_in : (i u v : ℕ) → s.asked i u v ≡ true → s.so_far.joined i u ≡ true) (shut_in : (i u : ℕ) → s.has_closed i u ≡ true → s.so_far.is_decided i ≡ true) (undecided : s.so_far.is_decided k ≡ false)

@@ -27,7 +27,7 @@ use Rattle.kt_protocol.specs.Summary.{is_undone, is_unreceived}
 abbrev pub IsFlying : State → ℕ → Type 0
 IsFlying s n = (s.so_far.is_sent n ≡ true) × (s.so_far.is_received n ≡ false) × (s.so_far.dropped n ≡ false)
 
--- messages of a sender to a receiver are after_receiving, held and in transit in order
+-- messages of a sender to a receiver are received, held and in transit in order
 pub record Ordered (s : State) : Type 0 where
   pub received_order : (m n : ℕ) → s.so_far.is_received m ≡ true → s.so_far.is_received n ≡ true → s.so_far.from m ≡ s.so_far.from n → s.so_far.to m ≡ s.so_far.to n → s.so_far.received_at m < s.so_far.received_at n → m < n
   pub received_first : (m n : ℕ) → s.so_far.is_received m ≡ true → IsFlying s n → s.so_far.from m ≡ s.so_far.from n → s.so_far.to m ≡ s.so_far.to n → m < n
@@ -47,7 +47,7 @@ abbrev pub any_other : Parcel → ℕ
 any_other (App m) = 0
 any_other _ = 1
 
--- m was after_front out in front of all of q's to p
+-- m was taken out in front of all of q's to p
 pub record Front (s : State) (channel held : Lists) (p q m : ℕ) : Type 0 where
   pub held_rises : (u v : ℕ) → falls 0 (held u v) ≡ 0
   pub channel_rises : (u v : ℕ) → falls 0 (channel u v) ≡ 0
@@ -447,7 +447,7 @@ ordered_deciding s p k c roll kept air t = go c roll
     got_order_after : (m n : ℕ) → (s.so_far.is_received m && not (is_unreceived s.so_far k m)) ≡ true → (s.so_far.is_received n && not (is_unreceived s.so_far k n)) ≡ true → s.so_far.from m ≡ s.so_far.from n → s.so_far.to m ≡ s.so_far.to n → s.so_far.received_at m < s.so_far.received_at n → m < n
     got_order_after m n a b = t.received_order m n (both (s.so_far.is_received m) (is_unreceived s.so_far k m) a).0 (both (s.so_far.is_received n) (is_unreceived s.so_far k n) b).0
 
-    -- what is after_receiving again was after_receiving later
+    -- what is received again was received later
     got_first_after : (m n : ℕ) → (s.so_far.is_received m && not (is_unreceived s.so_far k m)) ≡ true → ((s.so_far.is_sent n && not (is_undone s.so_far k n)) ≡ true) × ((s.so_far.is_received n && not (is_unreceived s.so_far k n)) ≡ false) × (s.so_far.dropped n ≡ false) → s.so_far.from m ≡ s.so_far.from n → s.so_far.to m ≡ s.so_far.to n → m < n
     got_first_after m n a b c d = at_test (s.so_far.is_received n) refl
       where

@@ -34,7 +34,7 @@ number_most (suc n) f = let i = number_most n f in at_test (f n) _ i
     at_test true x i = omega (arith, i)
     at_test false x i = omega (arith, i)
 
--- one that after_failing
+-- one that fails
 pub number_less : (n : ℕ) (f : ℕ → Bool) (p : ℕ) → p < n → f p ≡ false → count_below n f < n
 unfolding count_below
 number_less zero f p l e = absurd (omega (arith, l))

@@ -27,7 +27,7 @@ abbrev pub is_told : ℕ → Parcel → ℕ
 is_told k (Decide j c) = one (j == k)
 is_told k _ = 0
 
--- what after_holding of instance j and process u after each step
+-- what holds of instance j and process u after each step
 pub record Waiting (s : State) (j u : ℕ) : Type 0 where
   -- who is to answer or to decide awaits somebody
   pub waits : s.so_far.joined j u ≡ true → s.so_far.is_decided j ≡ false → (u == s.initiator j || not (s.has_answered j u)) ≡ true → (v : ℕ) × (s.awaits j u v ≡ true)
@@ -127,7 +127,7 @@ waiting_answering s p k j u n r = record {
   told = λ a b c. let x = r.told a b c in (x.0, push_told s.channel p (s.parent k p) (Reply k (s.all_willing k p)) j (s.parent j u) u _ x.1);
 }
 
--- who has answered needs to await none_of
+-- who has answered needs to await nobody
 pub waiting_answered : (s : State) (p k : ℕ) → s.so_far.is_decided k ≡ false → p ≢ s.initiator k → Waiting (after_answering s p k) k p
 waiting_answered s p k d n = record {
   waits = λ a b c. absurd (none (p == s.initiator k) (k == k && p == p) (s.has_answered k p) (is_other p (s.initiator k) n) (rw (is_same k, is_same p) refl) c);
@@ -182,7 +182,7 @@ waiting_closing s p k c o asked there i u n r = go c (s.so_far.is_rollback k)
     go true false = record { waits = r.waits; told = waiting_closed s p k true o asked there i u n r }
     go false false = record { waits = r.waits; told = waiting_closed s p k false o asked there i u n r }
 
--- who after_closing is in no instance
+-- who closes an instance is in no instance
 pub waiting_shut : (s : State) (p k : ℕ) (c : Bool) → 0 < k → s.so_far.is_decided k ≡ true → Waiting (after_closing s p k c) k p
 waiting_shut s p k c pos d = go c (s.so_far.is_rollback k)
   where
@@ -200,6 +200,6 @@ waiting_decision s p q k c rest e j u n r = record { waits = r.waits; told = λ 
     other : (x : ℕ) → (if x == q && u == p then one (k == j) else 0) ≡ 0
     other x = grind (arith, nat_tests, n)
 
--- who after_take a decision of an instance that it is not in
+-- who takes a decision of an instance that it is not in
 pub waiting_ignores : (s : State) (p q k : ℕ) (rest : List Parcel) → s.so_far.open_in p ≢ k → s.so_far.is_decided k ≡ true → Waiting (after_decision s p q rest) k p
 waiting_ignores s p q k rest n d = record { waits = λ a b c. absurd (cc (b, d)); told = λ a b c. absurd (n b) }

@@ -25,7 +25,7 @@ use Rattle.kt_run.specs.Runs.{ToldAndHeld, BeginsRun, IsRun}
 abbrev pub Generator : Type 0
 Generator = List ℕ
 
--- xoshiro256++ from the words that SplitMix64 makes of a seed
+-- xoshiro256++ from the words that `SplitMix64` makes of a seed
 abbrev pub seeded : ℕ → Generator
 seeded seed = of_seed (splitmix_seed 32 seed)
 

@@ -1,4 +1,4 @@
--- SeenLists to a process, of which those of some senders are changed already.
+-- Lists to a process, of which those of some senders are changed already.
 use Rattle.std.specs.Prelude.{ℕ, ◌==◌, ◌&&◌, not, if◌then◌else◌, Bool, List}
 use Rattle.kt_fifo.specs.declared.parcels.Parcel.{Parcel}
 use Rattle.kt_machine.specs.Seen.{SeenLists}

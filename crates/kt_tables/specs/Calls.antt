@@ -15,17 +15,17 @@ pub data Call : Type 0 where
 pub record PartsOfCalls : Type 0 where
   -- the whole list
   pub calls : List Call
-  -- the part after the last on_rollback
+  -- the part after the last `on_rollback`
   pub since_rollback : List Call
-  -- the part after the latest of these: the last on_tentative that no on_abort undid, the last on_rollback
+  -- the part after the latest of these: the last `on_tentative` that no `on_abort` undid, the last `on_rollback`
   pub since : List Call
-  -- the part up to the last on_tentative that an on_commit made permanent
+  -- the part up to the last `on_tentative` that an `on_commit` made permanent
   pub before : List Call
-  -- whether the last on_tentative is neither committed nor aborted
+  -- whether the last `on_tentative` is neither committed nor aborted
   pub is_open : Bool
   -- while it is open: the list cut before it
   pub cut : List Call
-  -- while it is open: *since* of the list cut before it, and the on_tentative
+  -- while it is open: *since* of the list cut before it, and the `on_tentative`
   pub aside : List Call
 
 abbrev pub no_parts : PartsOfCalls
@@ -98,7 +98,7 @@ receiveds q (on_abort ∷ calls) = receiveds q calls
 receiveds q (on_rollback ∷ calls) = receiveds q calls
 
 -- the lists that the tables answer for: labels are above 0 and rise, call by call and peer by peer, those of
--- `received` since the last on_rollback; and nothing is sent while a tentative checkpoint is open
+-- `received` since the last `on_rollback`; and nothing is sent while a tentative checkpoint is open
 pub record Speaks (calls : List Call) : Type 0 where
   pub sent_rise : (q : ℕ) → LabelsRise 0 (sents q calls)
   pub received_rise : (q : ℕ) → LabelsRise 0 (receiveds q (parts calls).since_rollback)

@@ -1,4 +1,4 @@
--- ReceivedParts while its two histories grow and are cut back.
+-- The list of a pair while its two histories grow and are cut back.
 use Rattle.std.proofs.Common.{◌≡◌, ℕ, ◌+◌, ◌-◌, ◌<◌, ◌≤◌, true, false, Option, Some, None, IfSome, List, [], ◌∷◌, ◌++◌, length, map, take, drop, sym, ap, ◌∙◌, subst, arith, inl, inr}
 use Rattle.std.specs.List.{slice_get, slice_index}
 use Rattle.std.specs.Prelude.{min}
@@ -320,7 +320,7 @@ forgotten_none v w lengths n c d sent received least a b e _ = record {
       absurd (omega (arith, one, two, least));
 }
 
--- a received_from without arrivals
+-- a list without arrivals
 pub no_item : {X : Type 0} (xs : List X) (k : ℕ) (x : X) → length xs ≡ 0 → slice_get xs k ≡ Some x → ⊥
 no_item xs k x e at = absurd (omega (arith, e, slice_get_within xs k x at))
 
