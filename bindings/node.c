@@ -1,4 +1,5 @@
-/* Two nodes in one C program: a payment, and a checkpoint that takes in its sender. Each line is a row of a process, as kt_merge reads it. */
+/* Two nodes in one C program: a payment, a checkpoint that takes in its sender, and a rollback of a process whose object is lost. Each
+ * line is a row of a process, as kt_merge reads it. */
 #include "koo_toueg.h"
 
 #include <stdio.h>
@@ -55,12 +56,12 @@ int main(void) {
         nodes[me].balance = nodes[me].permanent = 100;
     }
     const kt_input pay = {.kind = KT_SEND, .peer = 1, .body = 40}, checkpoint = {.kind = KT_BEGIN, .able = 1};
-    const kt_input fail = {.kind = KT_FAIL}, rollback = {.kind = KT_BEGIN, .rollback = 1};
+    const kt_input rollback = {.kind = KT_BEGIN, .rollback = 1};
 
     nodes[0].balance -= pay.body;
     step(0, &pay);
     step(1, &checkpoint);
-    step(1, &fail);
+    nodes[1].balance = 0; /* lost, and gone back to by the rollback */
     step(1, &rollback);
     for (uint32_t me = 0; me < COUNT; me++) printf("process %u has %lld\n", me, (long long)nodes[me].balance);
     return 0;
@@ -75,11 +76,10 @@ int main(void) {
 5,decided,1,i1.1,commit,-
 5,closed,1,i1.1,-,-
 6,closed,0,i1.1,-,-
-6,failed,1,-,-,-
-7,began,1,i1.2,rollback,-
-7,ready,1,i1.2,-,-
-7,decided,1,i1.2,commit,-
-7,closed,1,i1.2,-,-
+6,began,1,i1.2,rollback,-
+6,ready,1,i1.2,-,-
+6,decided,1,i1.2,commit,-
+6,closed,1,i1.2,-,-
 process 0 has 60
 process 1 has 140
 */

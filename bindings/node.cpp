@@ -4,26 +4,21 @@
 #include <deque>
 #include <iostream>
 
-struct OnWay {
-    std::uint32_t from, to;
-    kt_parcel parcel;
-};
-
 int main() {
     std::vector<koo_toueg::Node> nodes{{0, 2}, {1, 2}};
     std::vector<std::string> parts(2);
-    std::deque<OnWay> on_way;
+    std::deque<kt_parcel> on_way;
 
     const auto step = [&](std::uint32_t at, kt_input input) {
         if (nodes[at].has_to_save(input)) std::cout << "process " << at << " saves its object\n";
         const std::optional<koo_toueg::Output> output = nodes[at].step(input);
         if (!output) return;
         parts[at] += output->lines();
-        for (std::uint32_t to = 0; to < output->processes; to++)
-            if (output->parcels[to].kind) on_way.push_back({at, to, output->parcels[to]});
+        for (const kt_parcel &parcel : output->parcels)
+            if (parcel.kind) on_way.push_back(parcel);
     };
     const auto deliver_all = [&] {
-        for (; !on_way.empty(); on_way.pop_front()) step(on_way.front().to, koo_toueg::deliver(on_way.front().from, on_way.front().parcel));
+        for (; !on_way.empty(); on_way.pop_front()) step(on_way.front().to, koo_toueg::deliver(on_way.front().from, on_way.front()));
     };
 
     step(0, koo_toueg::send(1, 250));

@@ -3,11 +3,13 @@
 usage: bank.py [--branches N] [--seconds S] [--kills K] [--seed SEED] [--folder FOLDER]
 
 For S seconds it draws payments and checkpoints, and kills K times a branch. Then it waits until nothing is left to do, merges the parts
-of all branches into one log, asks the checker whether this is the log of a run, and counts the money in each recovery line. It ends
-with 0 where the answer is yes and the money is all there.
+of all branches into one log, asks the checker whether this is the log of a run, and counts the money in each recovery line, with what is
+on its way there, and in the end nothing is. It ends with 0 where the answer is yes and the money is all there.
 """
 import argparse
+import contextlib
 import json
+import os
 import pathlib
 import random
 import signal
@@ -18,12 +20,12 @@ import tempfile
 import threading
 import time
 
-from account import OPENING, Account, money
-from branch import HOST
+from branch import HOST, OPENING
 
 import koo_toueg
 
 BRANCH = pathlib.Path(__file__).resolve().parent / "branch.py"
+AGAIN = (-signal.SIGKILL, os.EX_IOERR, os.EX_TEMPFAIL)  # how a branch ends that is started again
 
 
 class Broken(Exception):
@@ -43,16 +45,17 @@ def free_port(count):
 
 
 class Bank:
-    """The branches, each a process that is started again where it was killed, by words and in an environment that may be other ones."""
+    """The branches, each a process that is started again where it was killed or its disk failed, by words and in an environment that may
+    be other ones."""
 
     def __init__(self, count, folder, words=(sys.executable, str(BRANCH)), environment=lambda: None):
         self.count, self.folder, self.words, self.environment = count, pathlib.Path(folder), words, environment
         self.port, self.processes, self.quiet = free_port(count), {}, set()
-        self.kills, self.times, self.fault, self.is_ending = 0, [], None, False
+        self.kills, self.times, self.said, self.fault, self.is_ending = 0, [], {}, None, False
         self.folder.mkdir(parents=True)
 
     def keep(self, p):
-        """Starts a branch, and again where it was killed; until it ends."""
+        """Starts a branch, and again where it did not come to its end."""
         while not self.fault:
             began, words = time.monotonic(), (str(p), str(self.count), str(self.branch_folder(p)), str(self.port))
             with open(self.folder / f"errors{p}", "w+b") as errors:
@@ -68,9 +71,10 @@ class Bank:
                 status = process.wait()
                 if status == 0:
                     return
-                if status != -signal.SIGKILL:
-                    errors.seek(0)
-                    self.fault = f"branch {p} stopped: {errors.read().decode().strip().splitlines()[-1:]}"
+                errors.seek(0)
+                self.said[p] = [line for line in errors.read().decode().splitlines() if "Error" in line or line.startswith("branch.py")][-1:]
+                if status not in AGAIN:
+                    self.fault = f"branch {p} stopped: {self.said[p]}"
             self.quiet.discard(p)
             self.kills += 1
             time.sleep(random.uniform(0, .2))
@@ -104,7 +108,7 @@ class Bank:
             self.tell(p, "end")
         while len(self.quiet) < self.count and not self.fault:
             if time.monotonic() > until:
-                self.fault = "something is left to do"
+                self.fault = f"something is left to do; what branches said last: {self.said}"
             time.sleep(.02)
 
     def session(self, seconds, kills, chance):
@@ -115,7 +119,8 @@ class Bank:
         self.work(seconds, kills, chance)
         self.settle()
         for process in self.processes.values():
-            process.stdin.close()
+            with contextlib.suppress(BrokenPipeError):
+                process.stdin.close()
         for keeper in keepers:
             keeper.join()
         if self.fault:
@@ -139,34 +144,51 @@ class Bank:
 
     def saved(self, p, number):
         """What a branch saved as its so many-th checkpoint, 0 for the opening."""
-        return Account((self.branch_folder(p) / f"saved{number}").read_text())
+        return int((self.branch_folder(p) / f"saved{number}").read_text())
 
 
 def recovery_lines(log, count):
-    """For each recovery line of a log, which checkpoint of each branch it has: its first one is 0, the opening."""
-    line, taken, kinds, members = [0] * count, [0] * count, {}, {}
-    yield line
-    for row in log.decode().split("\n"):
+    """The recovery lines of a log: which checkpoint of each branch each has, 0 for the opening, and how much is on its way there; and how
+    much is on its way at the end."""
+    line, taken, kinds, members, amounts = [0] * count, [0] * count, {}, {}, {}
+    # What each branch put on its way, less what it took from there: now, when it took its last checkpoint, and in its permanent one.
+    now, tentative, permanent = ([0] * count for _ in range(3))
+    lines = [(line[:], 0)]
+    for number, row in enumerate(log.decode().split("\n")):
         match row.split(","):
+            case "sent", p, _, body:
+                amounts[str(number)] = int(body)
+                now[int(p)] += int(body)
+            case "received", p, _, message:
+                now[int(p)] -= amounts[message]
             case "began", p, k, kind:
                 kinds[k], members[k] = kind, []
             case "took", p, k, _:
                 taken[int(p)] += 1
+                tentative[int(p)] = now[int(p)]
                 members[k].append(int(p))
-            case "decided", p, k, "commit" if kinds[k] == "checkpoint":
+            case "ready", p, k, _:
+                members[k].append(int(p))
+            case "decided", p, k, "commit" if kinds[k] == "rollback":
                 for q in members[k]:
-                    line[q] = taken[q]
-                yield line
+                    now[q] = permanent[q]
+            case "decided", p, k, "commit":
+                for q in members[k]:
+                    line[q], permanent[q] = taken[q], tentative[q]
+                lines.append((line[:], sum(permanent)))
+    return lines, sum(now)
 
 
 def audit(bank, log):
-    """Counts the money in each recovery line; how many lines there are."""
-    lines = 0
-    for line in recovery_lines(log, bank.count):
-        found, lines = money([bank.saved(p, number) for p, number in enumerate(line)]), lines + 1
+    """Counts the money in each recovery line, with what is on its way there, and what never came; how many lines there are."""
+    lines, left = recovery_lines(log, bank.count)
+    for number, (line, on_its_way) in enumerate(lines, 1):
+        found = sum(bank.saved(p, checkpoint) for p, checkpoint in enumerate(line)) + on_its_way
         if found != bank.count * OPENING:
-            raise Broken(f"recovery line {lines}: {found} in place of {bank.count * OPENING}")
-    return lines
+            raise Broken(f"recovery line {number}: {found} in place of {bank.count * OPENING}")
+    if left:
+        raise Broken(f"{left} never came")
+    return len(lines)
 
 
 def main():

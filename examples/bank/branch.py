@@ -3,39 +3,75 @@
 usage: branch.py ME COUNT FOLDER PORT
 
 Branch P listens on port PORT + P of this machine. Commands are lines of the standard input: `pay TO AMOUNT`, `checkpoint`, and `end`
-after the last one. It prints `up` once its account is back, and `quiet` once nothing is left to do.
+after the last one. It prints `up` once its account is back, and `quiet` once nothing is left to do. It ends with 74 where its disk
+fails, and with 75 where its folder has another owner; a line on the standard error says so.
 """
 import asyncio
 import collections
+import fcntl
 import json
 import os
 import pathlib
 import random
 import sys
-
-from account import Account
+import zlib
 
 sys.path.insert(0, str(pathlib.Path(__file__).resolve().parents[2] / "bindings"))
-from koo_toueg_node import Begin, Deliver, Fail, Node, Parcel, Redeliver, Send  # noqa: E402
+from koo_toueg_node import Begin, Deliver, Node, NodeFault, Parcel, Redeliver, Send  # noqa: E402
 
 HOST = "127.0.0.1"
+OPENING = 1000  # what an account has at first
+
+
+class Stray(Exception):
+    """What came over a link is not what a branch sends."""
+
+
+def frame(data):
+    """Bytes as they travel, with their checksum."""
+    return data + zlib.crc32(data).to_bytes(4, "little")
+
+
+async def read_frame(reader, size):
+    """So many bytes that traveled as a frame."""
+    came = await reader.readexactly(size + 4)
+    if came != frame(came[:size]):
+        raise Stray
+    return came[:size]
+
+
+def greeting(sender, receiver):
+    """What a branch says first on a link to another one."""
+    return b"bank" + bytes([sender, receiver])
+
+
+def give_up(status, why):
+    """Ends this process at once, before anything of it goes out that is not durable."""
+    print(f"branch.py: {why}", file=sys.stderr, flush=True)
+    os._exit(status)
 
 
 class Disk:
-    """What outlives the process: the part of the log, the accounts that were saved, and the state, which says where the part ends."""
+    """What outlives the process: the part of the log, the accounts that were saved, and the state, which says where the part ends. It
+    has one owner, since two would overwrite each other."""
 
     def __init__(self, folder):
         os.makedirs(folder, exist_ok=True)
         self.folder = os.open(folder, os.O_RDONLY)
+        self.lock()
         self.part = os.open("part", os.O_RDWR | os.O_CREAT, 0o644, dir_fd=self.folder)
 
-    def read(self, name):
-        """A file, empty if there is none."""
+    def lock(self):
+        """Makes this process the owner, until it ends in whatever way."""
+        self.owned = os.open("lock", os.O_RDWR | os.O_CREAT, 0o644, dir_fd=self.folder)
         try:
-            with open(os.open(name, os.O_RDONLY, dir_fd=self.folder), "rb") as file:
-                return file.read()
-        except FileNotFoundError:
-            return b""
+            fcntl.flock(self.owned, fcntl.LOCK_EX | fcntl.LOCK_NB)
+        except BlockingIOError:
+            give_up(os.EX_TEMPFAIL, "the folder has another owner")
+
+    def read(self, name):
+        with open(os.open(name, os.O_RDONLY, dir_fd=self.folder), "rb") as file:
+            return file.read()
 
     def write(self, file, data):
         """Writes all of it, and makes it durable."""
@@ -63,22 +99,30 @@ class Branch:
     """A node and an account. No other branch sees anything of a step before all of it is durable."""
 
     def __init__(self, me, count, folder, port):
-        self.me, self.port, self.disk = me, port, Disk(folder)
+        self.me, self.port = me, port
         self.others = [to for to in range(count) if to != me]
         self.waiting, self.links, self.is_busy = collections.deque(), {}, False
         # Of the accounts that were saved: how many, and which one is permanent, and which one tentative.
         self.end = self.steps = self.saves = self.permanent = self.tentative = 0
         self.outbox = {to: [] for to in self.others}
-        stored = self.disk.read("state")
-        if stored:
-            self.resume(json.loads(stored))
-        else:
-            self.node, self.account = Node(me, count), Account()
-            self.disk.replace("saved0", bytes(self.account))
+        try:
+            self.disk = Disk(folder)
+            self.start(count)
+        except OSError as why:
+            give_up(os.EX_IOERR, why)
+
+    def start(self, count):
+        """Starts, or goes on after the last step that was made durable."""
+        try:
+            self.resume(json.loads(self.disk.read("state")))
+        except FileNotFoundError:
+            self.node, self.account = Node(self.me, count), OPENING
+            self.disk.replace("saved0", b"%d" % OPENING)
+            self.store(b"")
         self.disk.cut(self.end)
 
     def resume(self, stored):
-        """Goes on after the last step that was made durable; the account is gone."""
+        """Takes what was stored. The account is lost: None until it is restored. The node is not told so, and drops nothing."""
         self.node, self.account = Node.load(bytes.fromhex(stored["node"])), None
         self.end, self.steps, self.saves, self.permanent, self.tentative = stored["numbers"]
         for to, parcels in stored["outbox"].items():
@@ -88,31 +132,38 @@ class Branch:
         """Makes a step durable: its rows first, and then, at once, all else and where the rows end."""
         if rows:
             self.disk.write(self.disk.part, rows)
-        self.end, self.steps = self.end + len(rows), self.steps + 1
+        self.end += len(rows)
         outbox = {to: [bytes(parcel).hex() for parcel in parcels] for to, parcels in self.outbox.items()}
         numbers = self.end, self.steps, self.saves, self.permanent, self.tentative
         self.disk.replace("state", json.dumps({"node": bytes(self.node).hex(), "outbox": outbox, "numbers": numbers}).encode())
 
     def save(self):
         """Saves the account, as the one that becomes tentative where the step keeps it; whether that was done."""
+        if self.account is None:
+            return False
         try:
-            self.disk.replace(f"saved{self.saves + 1}", bytes(self.account))
+            self.disk.replace(f"saved{self.saves + 1}", b"%d" % self.account)
         except OSError:
             return False
         return True
 
     def step(self, what):
-        """Gives the node an input, and makes what follows durable before a parcel goes out. It returns of whom the node holds messages."""
+        """Gives the node an input, and makes what follows durable before a parcel goes out. It returns of whom the node holds messages.
+        Where the disk fails the node is ahead of it, so nothing follows."""
         if self.node.look(what):
             what = what._replace(able=self.save())
         output = self.node.step(what)
         if output is None:
             return None
-        for act in output.acts:
-            self.do(act)
+        self.steps += 1
         for to, parcel in output.parcels:
             self.outbox[to].append(parcel)
-        self.store(b"".join(output.rows))
+        try:
+            for act in output.acts:
+                self.do(act)
+            self.store(b"".join(output.rows))
+        except OSError as why:
+            give_up(os.EX_IOERR, why)
         self.put(output.parcels)
         self.is_busy = output.busy
         return output.held
@@ -120,10 +171,8 @@ class Branch:
     def do(self, act):
         """Does to the account, and to those that were saved, what a step asks for."""
         match act.kind:
-            case "apply":
-                answer = self.account.apply(act.sender, act.body)
-                if answer is not None:
-                    self.waiting.append((act.sender, answer))
+            case "apply" if self.account is not None:
+                self.account += act.body
             case "keep":
                 self.saves = self.tentative = self.saves + 1
             case "promote":
@@ -131,32 +180,32 @@ class Branch:
             case "discard":
                 self.tentative = 0
             case "restore":
-                self.account = Account(self.disk.read(f"saved{self.permanent}"))
+                self.account = int(self.disk.read(f"saved{self.permanent}"))
                 self.waiting.clear()
-            case "drop":
-                self.account = None
 
     def put(self, parcels):
         """Puts parcels on their way. Where there is no link they wait in the outbox."""
         for to, parcel in parcels:
             if to in self.links:
-                self.links[to].write(bytes(parcel))
+                self.links[to].write(frame(bytes(parcel)))
 
     def take(self, what):
         """Gives the node an input, and then what it holds."""
         held = self.step(what)
         while held is not None:
             held = self.step(Redeliver(held))
-        self.send()
+        self.pay()
 
-    def send(self):
-        """Sends what waits. In an open instance that goes on waiting."""
-        while self.waiting and not self.is_busy:
-            self.step(Send(*self.waiting.popleft()))
+    def pay(self):
+        """Makes the payments that wait, where there is the money for them. In an open instance they go on waiting."""
+        while self.waiting and not self.is_busy and self.account is not None:
+            to, amount = self.waiting.popleft()
+            if amount <= self.account:
+                self.step(Send(to, amount))
+                self.account -= amount
 
     async def recover(self):
-        """The account is gone: rolls back, and again where another branch was unwilling, which may want to do so itself."""
-        self.step(Fail())
+        """Rolls back until the account is restored, and again where another branch was unwilling, which may want to do so itself."""
         pause = .01
         while self.account is None:
             if not self.is_busy:
@@ -165,40 +214,44 @@ class Branch:
             await asyncio.sleep(random.uniform(.005, pause))
         print("up", flush=True)
 
-    async def remind(self):
-        """Makes payments again that were not confirmed for a second."""
-        before = {}
-        while True:
-            await asyncio.sleep(1)
-            if self.account:
-                self.waiting.extend(payment for number, payment in self.account.open.items() if before.get(number) == payment)
-                before = dict(self.account.open)
-                self.send()
-
     async def feed(self, to):
-        """Keeps a link to a branch, which brings there what is in the outbox until it is acknowledged."""
+        """Keeps a link to a branch."""
         while True:
             try:
                 reader, writer = await asyncio.open_connection(HOST, self.port + to)
-                writer.write(bytes([self.me]))
-                self.links[to] = writer
-                self.put((to, parcel) for parcel in self.outbox[to])
-                while True:
-                    taken = int.from_bytes(await reader.readexactly(8), "little")
-                    self.outbox[to] = [parcel for parcel in self.outbox[to] if parcel.number > taken]
-            except (OSError, asyncio.IncompleteReadError):
-                self.links.pop(to, None)
+                try:
+                    await self.bring(to, reader, writer)
+                finally:
+                    self.links.pop(to, None)
+                    writer.close()
+            except (OSError, asyncio.IncompleteReadError, Stray):
                 await asyncio.sleep(.02)
 
+    async def bring(self, to, reader, writer):
+        """Brings a branch what is in the outbox, until it is acknowledged."""
+        writer.write(frame(greeting(self.me, to)))
+        if await read_frame(reader, len(greeting(0, 0))) != greeting(to, self.me):
+            raise Stray
+        self.links[to] = writer
+        self.put((to, parcel) for parcel in self.outbox[to])
+        while True:
+            taken = int.from_bytes(await read_frame(reader, 8), "little")
+            self.outbox[to] = [parcel for parcel in self.outbox[to] if parcel.number > taken]
+
     async def serve(self, reader, writer):
-        """Takes the parcels of a branch. Each is acknowledged once its step is durable."""
+        """Takes the parcels of a branch. Each is acknowledged once its step is durable. What is not the next parcel of a branch closes
+        its link, and nothing else."""
         try:
-            sender = (await reader.readexactly(1))[0]
+            came = await read_frame(reader, len(greeting(0, 0)))
+            sender = came[-2]
+            if sender not in self.others or came != greeting(sender, self.me):
+                raise Stray
+            writer.write(frame(greeting(self.me, sender)))
             while True:
-                parcel = Parcel.from_buffer_copy(await reader.readexactly(56))
+                parcel = Parcel.from_buffer_copy(await read_frame(reader, len(bytes(Parcel()))))
                 self.take(Deliver(sender, parcel))
-                writer.write(parcel.number.to_bytes(8, "little"))
-        except (OSError, asyncio.IncompleteReadError):
+                writer.write(frame(parcel.number.to_bytes(8, "little")))
+        except (OSError, asyncio.IncompleteReadError, Stray, NodeFault):
             writer.close()
 
     async def obey(self, group):
@@ -207,23 +260,18 @@ class Branch:
         await asyncio.get_running_loop().connect_read_pipe(lambda: asyncio.StreamReaderProtocol(commands), sys.stdin)
         async for line in commands:
             word, *numbers = line.decode().split()
-            if word == "pay" and self.account:
-                self.pay(*map(int, numbers))
-            elif word == "checkpoint" and self.account and not self.is_busy:
+            if word == "pay":
+                self.waiting.append(tuple(map(int, numbers)))
+                self.pay()
+            elif word == "checkpoint" and self.account is not None and not self.is_busy:
                 self.take(Begin())
             elif word == "end":
                 group.create_task(self.tell_quiet())
         os._exit(0)
 
-    def pay(self, to, amount):
-        """Makes a payment, if there is the money for it."""
-        if amount <= self.account.balance:
-            self.waiting.append((to, self.account.pay(to, amount)))
-            self.send()
-
     async def tell_quiet(self):
         """Waits until nothing is left to do."""
-        while not self.account or self.account.open or self.is_busy or self.waiting or any(self.outbox.values()):
+        while self.account is None or self.is_busy or self.waiting or any(self.outbox.values()):
             await asyncio.sleep(.01)
         print("quiet", flush=True)
 
@@ -234,7 +282,6 @@ class Branch:
             await asyncio.start_server(lambda *link: group.create_task(self.serve(*link)), HOST, self.port + self.me)
             for to in self.others:
                 group.create_task(self.feed(to))
-            group.create_task(self.remind())
             await self.obey(group)
 
 
