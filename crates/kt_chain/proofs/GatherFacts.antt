@@ -2,7 +2,7 @@
 use Rattle.std.proofs.Common.{◌≡◌, ◌∙◌, ◌<◌, ◌≤◌, ◌+◌, ℕ, List, [], ◌∷◌, ◌++◌, Option, Some, None, IfSome, sym, ap, arith, length, length-append, append_assoc}
 use Rattle.std.specs.Prelude.{All, option_map}
 use Rattle.std.proofs.lemmas.List.Elements.{All-weaker}
-use Rattle.csv.specs.Reading.{default_config, strip_bom, records}
+use Rattle.kt_text.specs.Records.{text_records}
 use Rattle.kt_text.specs.Records.{FieldsTaken as TakesRecord}
 use Rattle.kt_spacetime.specs.declared.certificate.Certificate.{Certificate}
 use Rattle.kt_chain.specs.declared.fault.CertTextFault.{CertTextFault}
@@ -10,7 +10,7 @@ use Rattle.kt_chain.specs.declared.fault.CertTextFault.TheVariants.{TooLong}
 use Rattle.kt_chain.specs.declared.records.RecordFault.{RecordFault}
 use Rattle.kt_chain.specs.declared.records.RecordFault.TheVariants as fault
 use Rattle.kt_chain.specs.Spelling.{Member, IsCertificateWithin, IsMemberInRange, HasShortChains, most_messages, records_of}
-use Rattle.kt_chain.specs.Texts.{IsRecordFault, IsCertificateFaultAfter, IsFirstCertificateFault, record_count, max_records, fault_at}
+use Rattle.kt_chain.specs.Texts.{certificate_width, IsRecordFault, IsCertificateFaultAfter, IsFirstCertificateFault, record_count, max_records, fault_at}
 use Rattle.kt_chain.specs.Reading.{BeginsWithCertificates, CertificateTaken}
 
 abbrev Records : Type 0
@@ -66,7 +66,7 @@ pub too_long : (text left rest : Option Records) (certificates : List Certificat
 too_long text left rest certificates fields b t full = first_fault text left certificates TooLong b (one_too_many left rest certificates fields t full)
 
 -- from the records to the bytes
-pub of_bytes : (told : Option (List ℕ)) (P : Records → Type 0) → IfSome (option_map (λ bytes. records default_config (strip_bom bytes)) told) P → IfSome told (λ bytes. P (records default_config (strip_bom bytes)))
+pub of_bytes : (told : Option (List ℕ)) (P : Records → Type 0) → IfSome (option_map (text_records certificate_width) told) P → IfSome told (λ bytes. P (text_records certificate_width bytes))
 of_bytes None P h = tt
 of_bytes (Some bytes) P h = h
 

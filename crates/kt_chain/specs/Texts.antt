@@ -11,6 +11,10 @@ use Rattle.kt_chain.specs.declared.records.RecordFault.{RecordFault}
 use Rattle.kt_chain.specs.declared.records.RecordFault.TheVariants as fault
 use Rattle.kt_chain.specs.Spelling.{IsCertificateWithin, records_of, chain_word, most_messages}
 
+-- how many fields a record has
+abbrev pub certificate_width : ℕ
+certificate_width = 5
+
 -- how many records a text has at most
 abbrev pub max_records : ℕ
 max_records = 2 ^ 19

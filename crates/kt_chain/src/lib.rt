@@ -13,5 +13,5 @@ mod writing;
 
 pub use fault::CertTextFault;
 pub use laws::{faults_are_real, one_spelling};
-pub use reading::{read_certs, read_certs_in};
+pub use reading::{CERTIFICATE_WIDTH, read_certs, read_certs_in};
 pub use writing::write_certs;

@@ -1,10 +1,9 @@
 //! Certificates read from their text.
 
 ghost use Rattle.std.specs.Prelude.{All, IfOk, IfErr, IfSome};
-ghost use Rattle.csv.specs.Reading.{default_config, strip_bom, records};
 ghost use Rattle.kt_chain.specs.Spelling.{IsCertificateWithin, HasShortChains};
-ghost use Rattle.kt_chain.specs.Texts.{IsCertText, IsFirstCertificateFault};
-ghost use Rattle.kt_text.specs.Records.{ReadsOn, left_in};
+ghost use Rattle.kt_chain.specs.Texts.{certificate_width, IsCertText, IsFirstCertificateFault};
+ghost use Rattle.kt_text.specs.Records.{ReadsOn, left_in, text_records};
 
 use crate::fault::CertTextFault;
 use crate::records::take_record;
@@ -17,17 +16,22 @@ use std::io::Read;
 /// How many records a certificate text may have.
 const MAX_RECORDS: u32 = 524_288;
 
+/// How many fields a record of a certificate text has.
+pub const CERTIFICATE_WIDTH: u32 = 5;
+
 /// The certificates of a text, in order, as `read_certs_in` gives them of its records.
 pub fn read_certs<R: Read + Drop>(
     alloc: Global,
     reader: R,
 ) -> Result<Vec<Certificate>, CertTextFault>
-    ensures found { IfOk result (λ certificates. IfSome (R.remaining reader) (λ bytes. IsCertText (records default_config (strip_bom bytes)) certificates.items)) }
+    ensures found { IfOk result (λ certificates. IfSome (R.remaining reader)
+        (λ bytes. IsCertText (text_records certificate_width bytes) certificates.items)) }
     ensures in_range { IfOk result (λ certificates. All IsCertificateWithin certificates.items) }
     ensures short { IfOk result (λ certificates. All HasShortChains certificates.items) }
-    ensures fault { IfErr result (λ e. IfSome (R.remaining reader) (λ bytes. IsFirstCertificateFault (records default_config (strip_bom bytes)) e)) }
+    ensures fault { IfErr result (λ e. IfSome (R.remaining reader)
+        (λ bytes. IsFirstCertificateFault (text_records certificate_width bytes) e)) }
 {
-    let mut records = read_records(alloc, reader)?;
+    let mut records = read_records(alloc, reader, CERTIFICATE_WIDTH)?;
     let mut current = ByteRecord::new(alloc);
     read_certs_in(alloc, &mut records, &mut current)
 }

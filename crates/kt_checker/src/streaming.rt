@@ -1,8 +1,9 @@
 //! A stored log judged row by row.
 
-ghost use Rattle.std.specs.Prelude.{◌≡◌, ◌↔◌, [], ℕ, List, Option, IfOk, IfErr, IfSome};
+ghost use Rattle.std.specs.Prelude.{◌≡◌, ◌≢◌, ◌↔◌, [], ℕ, List, Option, Some, IfOk, IfErr, IfSome};
 ghost use Rattle.kt_spacetime.specs.declared.event.Event.{Event};
 ghost use Rattle.kt_log_text.specs.Reading.{IsUnread, rows_unread};
+ghost use Rattle.kt_log_text.specs.declared.fault.LogFault.TheVariants as log;
 ghost use Rattle.kt_log_text.specs.Texts.{IsLogText, IsFirstLogFault};
 ghost use Rattle.kt_spacetime.specs.declared.verdict.Verdict.TheVariants.{Yes};
 ghost use Rattle.kt_checker.specs.Judged.{JudgeOf};
@@ -44,6 +45,8 @@ pub fn check_rows<R: Read + Drop>(
     requires unread { IsUnread rows.old }
     ensures answer { (source : Option (List ℕ)) → rows.old ≡ rows_unread source → IfOk result (IsAnswerOf source certificates.now) }
     ensures fault { (source : Option (List ℕ)) → rows.old ≡ rows_unread source → IfErr result (λ e. IfSome (rows_unread source).left (λ text. IsFirstLogFault text e)) }
+    // But for memory, the reader of the rows has met it.
+    ensures met { IfErr result (λ e. e ≢ log.Memory → rows.new.fault ≡ Some e) }
 {
     let mut judge = Judge::new(alloc, certificates)?;
     judge_unread(alloc, &mut judge, rows, certificates)
@@ -60,6 +63,8 @@ fn judge_unread<R: Read + Drop>(
     requires none_seen { JudgeOf judge.old certificates.now [] }
     ensures answer { (source : Option (List ℕ)) → rows.old ≡ rows_unread source → IfOk result (IsAnswerOf source certificates.now) }
     ensures fault { (source : Option (List ℕ)) → rows.old ≡ rows_unread source → IfErr result (λ e. IfSome (rows_unread source).left (λ text. IsFirstLogFault text e)) }
+    // But for memory, the reader of the rows has met it.
+    ensures met { IfErr result (λ e. e ≢ log.Memory → rows.new.fault ≡ Some e) }
 {
     let mut broken = None;
     while let Some(row) = rows.next()? {

@@ -3,7 +3,7 @@ use Rattle.std.proofs.Common.{◌≡◌, ◌∙◌, ◌≤◌, ◌<◌, ◌^◌,
 use Rattle.std.specs.Prelude.{All}
 use Rattle.std.proofs.lemmas.List.{map-append, append-nil}
 use Rattle.std.proofs.lemmas.List.Elements.{All-push}
-use Rattle.csv.specs.Reading.{default_config, strip_bom, records}
+use Rattle.kt_text.specs.Records.{text_records}
 use Rattle.kt_spacetime.specs.declared.event.Event.{Event}
 use Rattle.kt_log_text.specs.declared.fault.LogFault.{LogFault}
 use Rattle.kt_log_text.specs.declared.fault.LogFault.TheVariants.{Memory}
@@ -11,7 +11,7 @@ use Rattle.kt_log_text.specs.declared.rows.Format.{Format}
 use Rattle.kt_log_text.specs.declared.rows.Format.TheVariants.{One, Two}
 use Rattle.kt_spacetime.specs.Events.{IsRowInRange}
 use Rattle.kt_log_text.specs.Spelling.{spelling, max_rows, IsInFormat}
-use Rattle.kt_log_text.specs.Texts.{IsTextOf, IsFaultFrom, IsEndedFrom, IsAfterRows, AreInFormat, IsLogText, IsFirstLogFault}
+use Rattle.kt_log_text.specs.Texts.{row_width, IsTextOf, IsFaultFrom, IsEndedFrom, IsAfterRows, AreInFormat, IsLogText, IsFirstLogFault}
 use Rattle.kt_log_text.specs.Reading.{RowsRead, TakesRow, GivesRow, MeetsEnd, MeetsFault, Steps, rows_unread}
 use Rattle.kt_log_text.specs.Progress.{BeginsWithRows, GathersRows}
 
@@ -86,7 +86,7 @@ no_memory (Some text) None known rows b = absurd b
 no_memory (Some text) (Some left) known rows b = record { format = known; rows = rows; left = left; after_rows = b; wrong = tt }
 
 -- from the records to the bytes
-pub of_bytes : (source : Option (List ℕ)) (P : List (List (List ℕ)) → Type 0) → IfSome (rows_unread source).left P → IfSome source (λ bytes. P (records default_config (strip_bom bytes)))
+pub of_bytes : (source : Option (List ℕ)) (P : List (List (List ℕ)) → Type 0) → IfSome (rows_unread source).left P → IfSome source (λ bytes. P (text_records row_width bytes))
 of_bytes None P h = tt
 of_bytes (Some bytes) P h = h
 
@@ -94,7 +94,7 @@ of_bytes (Some bytes) P h = h
 pub gathered_all : (source : Option (List ℕ)) (old new : RowsRead) (rows : List Event) → GathersRows source old rows → MeetsEnd old new → IfSome (rows_unread source).left (λ text. IsLogText text rows)
 gathered_all source old new rows g e = all_said (rows_unread source).left old.left old.format rows g.begins (e.nothing_left g.going.1)
 
-pub gathered : (source : Option (List ℕ)) (old new : RowsRead) (rows : List Event) → GathersRows source old rows → MeetsEnd old new → IfSome source (λ bytes. IsLogText (records default_config (strip_bom bytes)) rows)
+pub gathered : (source : Option (List ℕ)) (old new : RowsRead) (rows : List Event) → GathersRows source old rows → MeetsEnd old new → IfSome source (λ bytes. IsLogText (text_records row_width bytes) rows)
 gathered source old new rows g e = of_bytes source (λ t. IsLogText t rows) (gathered_all source old new rows g e)
 
 -- a fault that is met while rows are gathered is the first of the records
@@ -102,7 +102,7 @@ pub gathered_to_fault : (source : Option (List ℕ)) (old new : RowsRead) (rows 
 gathered_to_fault source old new rows fault g f =
     first_fault (rows_unread source).left old.left old.format rows fault g.begins (subst (λ (n : ℕ). IfSome old.left (λ left. IsFaultFrom old.format n left fault)) g.count (f.first g.going.0))
 
-pub gathered_fault : (source : Option (List ℕ)) (old new : RowsRead) (rows : List Event) (fault : LogFault) → GathersRows source old rows → MeetsFault old new fault → IfSome source (λ bytes. IsFirstLogFault (records default_config (strip_bom bytes)) fault)
+pub gathered_fault : (source : Option (List ℕ)) (old new : RowsRead) (rows : List Event) (fault : LogFault) → GathersRows source old rows → MeetsFault old new fault → IfSome source (λ bytes. IsFirstLogFault (text_records row_width bytes) fault)
 gathered_fault source old new rows fault g f = of_bytes source (λ t. IsFirstLogFault t fault) (gathered_to_fault source old new rows fault g f)
 
 -- so is the want of memory

@@ -9,6 +9,7 @@ use Rattle.kt_log_text.specs.declared.reading.Progress.TheVariants.{Reading, End
 use Rattle.kt_log_text.specs.declared.rows.Format.{Format}
 use Rattle.kt_log_text.specs.declared.rows.Format.TheVariants.{One, Two}
 use Rattle.kt_log_text.specs.declared.reading.RowReader.TheInside.{Inside}
+use Rattle.kt_text.specs.Capped.{capped_left}
 use Rattle.kt_text.specs.Records.{left_in, ReadsOn}
 use Rattle.kt_log_text.specs.Reading.{RowsRead, TakesRow, rows_unread}
 use Rattle.kt_spacetime.specs.Events.{IsRowInRange}
@@ -36,7 +37,7 @@ has_ended (Failed fault) = false
 -- what callers see of a reader of rows
 abbrev pub rows_read : {R : Type 0} → (R → Option (List ℕ)) → Inside R → RowsRead
 rows_read remaining r = record {
-  left = left_at remaining r.records.value r.progress;
+  left = left_at (capped_left remaining) r.records.value r.progress;
   format = r.format;
   count = r.count;
   fault = fault_at r.progress;

@@ -1,12 +1,12 @@
 -- What callers see of a reader of rows.
 use Rattle.std.specs.Prelude.{◌≡◌, ◌<◌, ◌+◌, ℕ, Bool, true, false, List, ◌∷◌, Option, Some, None, option_map, Result, Ok, Err, IfSome}
-use Rattle.csv.specs.Reading.{default_config, strip_bom, records}
 use Rattle.kt_spacetime.specs.declared.event.Event.{Event}
 use Rattle.kt_log_text.specs.declared.fault.LogFault.{LogFault}
 use Rattle.kt_log_text.specs.declared.rows.Format.{Format}
 use Rattle.kt_spacetime.specs.Events.{IsRowInRange}
 use Rattle.kt_log_text.specs.Spelling.{spelling, max_rows, IsInFormat}
-use Rattle.kt_log_text.specs.Texts.{IsTextFrom, IsEndedFrom, IsFaultFrom}
+use Rattle.kt_text.specs.Records.{text_records}
+use Rattle.kt_log_text.specs.Texts.{row_width, IsTextFrom, IsEndedFrom, IsFaultFrom}
 
 -- the records that are left, where the reader tells its bytes; the format, once it is known; how many rows it gave;
 -- the fault that stopped it; whether it came to the end
@@ -20,7 +20,7 @@ pub record RowsRead : Type 0 where
 -- before the first record of these bytes
 abbrev pub rows_unread : Option (List ℕ) → RowsRead
 rows_unread bytes = record {
-  left = option_map (λ text. records default_config (strip_bom text)) bytes;
+  left = option_map (text_records row_width) bytes;
   format = None;
   count = 0;
   fault = None;

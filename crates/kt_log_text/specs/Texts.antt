@@ -10,6 +10,10 @@ use Rattle.kt_log_text.specs.declared.rows.RowFault.TheVariants as row
 use Rattle.kt_spacetime.specs.Events.{IsRowInRange}
 use Rattle.kt_log_text.specs.Spelling.{spelling, max_rows, IsInFormat, IsRowFieldFault}
 
+-- how many fields a row has
+abbrev pub row_width : ℕ
+row_width = 4
+
 -- the record that a text of format 2 begins with
 abbrev pub header : List (List ℕ)
 header = codes "kt" ∷ codes "2" ∷ codes "-" ∷ codes "-" ∷ []

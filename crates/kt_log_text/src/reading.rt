@@ -1,13 +1,12 @@
 //! Logs read from their text.
 
 ghost use Rattle.std.specs.Prelude.{◌≡◌, ◌≢◌, ◌⊎◌, ◌<◌, ◌≤◌, ℕ, List, [], ◌∷◌, length, Some, None, Ok, Err, IfOk, IfErr, IfSome, IfNone, OnSome, MatchBool, true, false};
-ghost use Rattle.csv.specs.Reading.{default_config, strip_bom, records};
 ghost use Rattle.csv.specs.Records.{fields_of};
 ghost use Rattle.kt_spacetime.specs.Events.{IsRowInRange};
 ghost use Rattle.kt_log_text.specs.Spelling.{spelling, max_rows, IsInFormat};
-ghost use Rattle.kt_log_text.specs.Texts.{header, IsFormatRecord, IsUnmarked, IsOtherVersion, IsRowFault, IsFaultFrom, IsEndedFrom, IsLogText, IsFirstLogFault};
+ghost use Rattle.kt_log_text.specs.Texts.{row_width, header, IsFormatRecord, IsUnmarked, IsOtherVersion, IsRowFault, IsFaultFrom, IsEndedFrom, IsLogText, IsFirstLogFault};
 ghost use Rattle.kt_log_text.specs.Reading.{IsUnread, Steps, rows_unread};
-ghost use Rattle.kt_text.specs.Records.{left_in, ReadsOn};
+ghost use Rattle.kt_text.specs.Records.{left_in, ReadsOn, text_records};
 ghost use Rattle.kt_log_text.specs.Progress.{TakesFields, IsFormatOf, IsHeadFault, IsRowCount, ReadsRow};
 
 use crate::fault::LogFault;
@@ -15,10 +14,14 @@ use crate::rows::{Format, event_of};
 use csv::{ByteRecord, Position, Reader};
 use kt_base::{Memory, RowNo};
 use kt_spacetime::{Event, SpaceTime};
+use kt_text::Capped;
 use kt_text::records::{next_record, read_records};
 use std::alloc::Global;
 use std::io::Read;
 use std::marker::Model;
+
+// How many fields a row has.
+const ROW_WIDTH: u32 = 4;
 
 #[derive(Clone, Copy)]
 enum Progress {
@@ -185,7 +188,7 @@ pub struct Record {
 /// row.
 #[derive(Drop)]
 pub struct RowReader<R: Read + Drop> {
-    records: Box<Reader<R>>,
+    records: Box<Reader<Capped<R>>>,
     current: ByteRecord,
     // None before the first record was read.
     format: Option<Format>,
@@ -211,7 +214,7 @@ impl<R: Read + Drop> RowReader<R> {
         ensures { IfOk result (λ r. r ≡ rows_unread (R.remaining reader)) }
     {
         Ok(RowReader {
-            records: read_records(alloc, reader)?,
+            records: read_records(alloc, reader, ROW_WIDTH)?,
             current: ByteRecord::new(alloc),
             format: None,
             count: 0,
@@ -266,7 +269,7 @@ impl<R: Read + Drop> RowReader<R> {
 
     /// The reader underneath.
     pub fn source(&self) -> &R {
-        self.records.get_ref()
+        &self.records.get_ref().source
     }
 }
 
@@ -292,8 +295,10 @@ pub fn read_rows<R: Read + Drop>(
 
 /// The log of a text, in format 1 or 2, as `read_rows` gives it of a reader of its rows.
 pub fn read_csv<R: Read + Drop>(alloc: Global, reader: R) -> Result<SpaceTime, LogFault>
-    ensures found { IfOk result (λ log. IfSome (R.remaining reader) (λ bytes. IsLogText (records default_config (strip_bom bytes)) log.rows)) }
-    ensures fault { IfErr result (λ e. IfSome (R.remaining reader) (λ bytes. IsFirstLogFault (records default_config (strip_bom bytes)) e)) }
+    ensures found { IfOk result (λ log. IfSome (R.remaining reader)
+        (λ bytes. IsLogText (text_records row_width bytes) log.rows)) }
+    ensures fault { IfErr result (λ e. IfSome (R.remaining reader)
+        (λ bytes. IsFirstLogFault (text_records row_width bytes) e)) }
 {
     let mut rows = RowReader::new(alloc, reader)?;
     read_rows(alloc, &mut rows)

@@ -1,14 +1,14 @@
 -- What the rows gathered so far say of a part's text.
 use Rattle.std.proofs.Common.{◌≡◌, ◌∙◌, ◌≤◌, ◌<◌, ℕ, List, [], ◌∷◌, ◌++◌, Option, Some, None, Ok, IfSome, refl, sym, ap, subst, arith, length, map, length-append, append_assoc, false}
 use Rattle.std.proofs.lemmas.List.{map-append, append-nil}
-use Rattle.csv.specs.Reading.{default_config, strip_bom, records}
+use Rattle.kt_text.specs.Records.{text_records}
 use Rattle.kt_text.specs.Records.{FieldsTaken}
 use Rattle.kt_text.proofs.FieldFacts.{Records}
 use Rattle.kt_merge.specs.declared.part_fault.PartFault.{PartFault}
 use Rattle.kt_merge.specs.declared.part_fault.PartFault.TheVariants.{Memory}
 use Rattle.kt_spacetime.specs.declared.named_rows.ClockedRow.{ClockedRow}
 use Rattle.kt_merge.specs.Spelling.{part_spelling}
-use Rattle.kt_merge.specs.Texts.{max_records, IsSpellable, IsPartFrom, clock_after, IsPartText, IsPartFaultFrom, BeginsPart, IsFirstPartFault}
+use Rattle.kt_merge.specs.Texts.{part_width, max_records, IsSpellable, IsPartFrom, clock_after, IsPartText, IsPartFaultFrom, BeginsPart, IsFirstPartFault}
 use Rattle.kt_merge.specs.Reading.{PartRead, part_records, part_unread, GivesPartRow, MeetsPartEnd, MeetsPartFault, StepsPart}
 
 abbrev Known : Type 0
@@ -93,7 +93,7 @@ no_memory p (Some text) None rows b = absurd b
 no_memory p (Some text) (Some left) rows b = record { rows = rows; left = left; begins = b; wrong = tt }
 
 -- from the records to the bytes
-pub of_part_bytes : (source : Option (List ℕ)) (P : Records → Type 0) → IfSome (part_records source) P → IfSome source (λ bytes. P (records default_config (strip_bom bytes)))
+pub of_part_bytes : (source : Option (List ℕ)) (P : Records → Type 0) → IfSome (part_records source) P → IfSome source (λ bytes. P (text_records part_width bytes))
 of_part_bytes None P h = tt
 of_part_bytes (Some bytes) P h = h
 

@@ -13,7 +13,9 @@ pub mod KeepingFacts
 pub mod HeldFacts
 pub mod MergedFacts
 pub mod StopFacts
+pub mod AheadFacts
 pub mod MergingFacts
 mod Rowwise
 mod CausalRows
+pub mod ReadBack
 mod LimitsAlone

@@ -1,6 +1,7 @@
 -- A merge that goes on, and where it stops.
 use Rattle.std.proofs.Common.{◌≡◌, ◌∙◌, ◌+◌, ◌⊎◌, ℕ, Option, Some, None, Ok, List, [], ◌∷◌, ◌++◌, IfNone, length, map, set, refl, sym, ap, subst, inl, inr}
 use Rattle.std.specs.Io.KnownBytes.{Appends}
+use Rattle.std.specs.Prelude.{Result, Err, IfErr}
 use Rattle.std.specs.List.{slice_get}
 use Rattle.std.proofs.lemmas.List.{map-append, append-nil}
 use Rattle.std.proofs.lemmas.List.Sums.{fold-append}
@@ -22,8 +23,9 @@ use Rattle.kt_merge.specs.declared.fault.RowFault.{RowFault}
 use Rattle.kt_merge.specs.declared.tables.Numbers.{Numbers}
 use Rattle.kt_merge.specs.Heads.{IsLeastHead, HasNoHead, GiveHeads}
 use Rattle.kt_merge.specs.Numbering.{IsRowFault, ShowsGiven}
-use Rattle.kt_merge.specs.Merging.{ArePartsUnread, log_text, WritesMerge, IsMergeFaultAfter, StopsMerge}
-use Rattle.kt_merge.proofs.MergedFacts.{IsMergedTo, taken, begins_merge, begins_taken, begins_nothing, merged_more, merged_all, merged_none, count_held}
+use Rattle.kt_merge.specs.Merging.{ArePartsUnread, log_text, WritesMerge, IsMergeFaultAfter, AreReadTo, StopsMerge, StopsReading}
+use Rattle.kt_merge.proofs.AheadFacts.{ahead_heads, ahead_more, ahead_same, ahead_taken, ahead_unread}
+use Rattle.kt_merge.proofs.MergedFacts.{IsMergedTo, own_of, taken, begins_merge, begins_taken, begins_nothing, merged_more, merged_all, merged_none, count_held}
 use Rattle.kt_merge.proofs.StopFacts.{row_fault, part_fault}
 
 -- the text of a log with one more row
@@ -40,6 +42,7 @@ pub record IsMerging (start parts : List PartRead) (heads : List (Option Clocked
   pub merged : IsMergedTo start parts heads rows log
   pub shows : ShowsGiven numbers (given_by nothing_given log)
   pub sends : Sends old new [] text (log_text log)
+  pub ahead : AreReadTo parts rows
 
 -- where nothing is written
 appends_none : (a : Option (List ℕ)) → Appends a a []
@@ -55,6 +58,7 @@ merging_none start parts heads numbers a text unread g shows e = record {
   merged = merged_none start parts heads unread g;
   shows = shows;
   sends = record { gone = []; written = appends_none a; is = e ∙ sym (append-nil (line_of header)) };
+  ahead = ahead_heads start parts heads unread g;
 }
 
 -- one more row
@@ -67,6 +71,7 @@ merging_more start parts heads numbers more a b d text gathered p row event old 
   merged = merged_more start parts heads p m.rows row (m.log ++ event ∷ []) old new head (taken start parts heads m.rows m.log p row event m.merged least e) there steps;
   shows = subst (λ (g : Given). ShowsGiven more g) (sym (given_more m.log event)) shows;
   sends = subst (λ (t : List ℕ). Sends a d [] gathered t) (sym (one_more m.log event)) (sends_more a b d [] text gathered (log_text m.log) (line_of (spelling event)) m.sends out);
+  ahead = ahead_more parts m.rows p row old new head m.ahead (own_of start parts heads m.rows m.log m.merged p row least.is).1 there steps;
 }
 
 -- where no row was found, no part has a next one
@@ -101,11 +106,11 @@ of_writing start rows log (merge.Part p fault) w = absurd w
 of_writing start rows log (merge.Row p n fault) w = absurd w
 
 -- before the first row nothing is written
-pub stops_first : (start : List PartRead) (a : Option (List ℕ)) (e : MergeFault) → IsMergeFaultAfter start [] [] e → StopsMerge start a a e
-stops_first start a e wrong = record { rows = []; log = []; begins = begins_nothing start; wrong = wrong; written = front_none a (log_text []) }
+pub stops_first : (start parts : List PartRead) (a : Option (List ℕ)) (e : MergeFault) → IsMergeFaultAfter start [] [] e → AreReadTo parts [] → StopsReading start parts a a e
+stops_first start parts a e wrong ahead = (record { rows = []; log = []; begins = begins_nothing start; wrong = wrong; written = front_none a (log_text []) }, ahead)
 
-pub stops_before : (start : List PartRead) (a : Option (List ℕ)) (e : MergeFault) → IsOfWriting e → StopsMerge start a a e
-stops_before start a e w = stops_first start a e (of_writing start [] [] e w)
+pub stops_before : (start : List PartRead) (a : Option (List ℕ)) (e : MergeFault) → ArePartsUnread start → IsOfWriting e → StopsReading start start a a e
+stops_before start a e unread w = stops_first start start a e (of_writing start [] [] e w) (ahead_unread start unread)
 
 -- at a row that has no number
 abbrev pub HasNoNumber : Given → ClockedRow → ℕ → MergeFault → Type 0
@@ -118,27 +123,32 @@ wrong_row start parts heads rows log p row n e m least number (inr w) =
     subst (λ (f : MergeFault). IsMergeFaultAfter start rows log f) (sym w.1) (row_fault start parts heads rows log p row n w.0 m least number w.2)
 
 pub stops_at_row : (start parts : List PartRead) (heads : List (Option ClockedRow)) (numbers : Numbers) (a b : Option (List ℕ)) (text : List ℕ) (p : ℕ) (row : ClockedRow) (at : PartRead) (e : MergeFault) (m : IsMerging start parts heads numbers a b text)
-    → IsLeastHead heads p row → slice_get parts p ≡ Some at → HasNoNumber (given_by nothing_given m.log) row at.count e → StopsMerge start a b e
-stops_at_row start parts heads numbers a b text p row at e m least there w = record {
-  rows = m.rows;
-  log = m.log;
-  begins = begins_merge start parts heads m.rows m.log m.merged;
-  wrong = wrong_row start parts heads m.rows m.log p row at.count e m.merged least (count_held start parts heads m.rows m.log p row at m.merged least.is there) w;
-  written = front_last a b b [] text (log_text m.log) m.sends (front_none b text);
-}
+    → IsLeastHead heads p row → slice_get parts p ≡ Some at → HasNoNumber (given_by nothing_given m.log) row at.count e → StopsReading start parts a b e
+stops_at_row start parts heads numbers a b text p row at e m least there w = (
+  record {
+    rows = m.rows;
+    log = m.log;
+    begins = begins_merge start parts heads m.rows m.log m.merged;
+    wrong = wrong_row start parts heads m.rows m.log p row at.count e m.merged least (count_held start parts heads m.rows m.log p row at m.merged least.is there) w;
+    written = front_last a b b [] text (log_text m.log) m.sends (front_none b text);
+  },
+  m.ahead,
+)
 
 -- where a row can't be written
 pub stops_in_writing : (start parts : List PartRead) (heads : List (Option ClockedRow)) (numbers : Numbers) (a b d : Option (List ℕ)) (text : List ℕ) (p : ℕ) (row : ClockedRow) (event : Event) (e : MergeFault) (m : IsMerging start parts heads numbers a b text)
-    → IsLeastHead heads p row → numbered_event (given_by nothing_given m.log) row.row.p row.row.event ≡ Some event → WritesFront b d (text ++ line_of (spelling event)) → IsOfWriting e → StopsMerge start a d e
+    → IsLeastHead heads p row → numbered_event (given_by nothing_given m.log) row.row.p row.row.event ≡ Some event → WritesFront b d (text ++ line_of (spelling event)) → IsOfWriting e → StopsReading start parts a d e
 stops_in_writing start parts heads numbers a b d text p row event e m least is out w =
-    let t = taken start parts heads m.rows m.log p row event m.merged least is in
-    record {
-      rows = m.rows ++ row ∷ [];
-      log = m.log ++ event ∷ [];
-      begins = begins_taken start parts heads p m.rows row (m.log ++ event ∷ []) t;
-      wrong = of_writing start (m.rows ++ row ∷ []) (m.log ++ event ∷ []) e w;
-      written = front_more out;
-    }
+    let t = taken start parts heads m.rows m.log p row event m.merged least is in (
+      record {
+        rows = m.rows ++ row ∷ [];
+        log = m.log ++ event ∷ [];
+        begins = begins_taken start parts heads p m.rows row (m.log ++ event ∷ []) t;
+        wrong = of_writing start (m.rows ++ row ∷ []) (m.log ++ event ∷ []) e w;
+        written = front_more out;
+      },
+      ahead_taken parts m.rows row m.ahead,
+    )
   where
     front_more : WritesFront b d (text ++ line_of (spelling event)) → WritesFront a d (log_text (m.log ++ event ∷ []))
     front_more q =
@@ -148,24 +158,34 @@ stops_in_writing start parts heads numbers a b d text p row event e m least is o
 -- where the next record of a part is wrong
 pub stops_at_part : (start parts : List PartRead) (heads : List (Option ClockedRow)) (numbers : Numbers) (a b d : Option (List ℕ)) (text gathered : List ℕ) (p : ℕ) (row : ClockedRow) (event : Event) (old new : PartRead) (fault : PartFault) (e : MergeFault)
     (m : IsMerging start parts heads numbers a b text) → IsLeastHead heads p row → numbered_event (given_by nothing_given m.log) row.row.p row.row.event ≡ Some event → Sends b d text gathered (line_of (spelling event))
-    → slice_get parts p ≡ Some old → e ≡ merge.Part p fault → MeetsPartFault old new fault → StopsMerge start a d e
+    → slice_get parts p ≡ Some old → e ≡ merge.Part p fault → MeetsPartFault old new fault → StopsReading start (set parts p new) a d e
 stops_at_part start parts heads numbers a b d text gathered p row event old new fault e m least is out there e_is f =
-    let t = taken start parts heads m.rows m.log p row event m.merged least is in
-    record {
-      rows = m.rows ++ row ∷ [];
-      log = m.log ++ event ∷ [];
-      begins = begins_taken start parts heads p m.rows row (m.log ++ event ∷ []) t;
-      wrong = subst (λ (x : MergeFault). IsMergeFaultAfter start (m.rows ++ row ∷ []) (m.log ++ event ∷ []) x) (sym e_is) (part_fault start parts heads p m.rows row (m.log ++ event ∷ []) old new fault t there f);
-      written = subst (λ (x : List ℕ). WritesFront a d x) (sym (one_more m.log event))
-          (front_last a d d [] gathered (log_text m.log ++ line_of (spelling event)) (sends_more a b d [] text gathered (log_text m.log) (line_of (spelling event)) m.sends out) (front_none d gathered));
-    }
+    let t = taken start parts heads m.rows m.log p row event m.merged least is in (
+      record {
+        rows = m.rows ++ row ∷ [];
+        log = m.log ++ event ∷ [];
+        begins = begins_taken start parts heads p m.rows row (m.log ++ event ∷ []) t;
+        wrong = subst (λ (x : MergeFault). IsMergeFaultAfter start (m.rows ++ row ∷ []) (m.log ++ event ∷ []) x) (sym e_is) (part_fault start parts heads p m.rows row (m.log ++ event ∷ []) old new fault t there f);
+        written = subst (λ (x : List ℕ). WritesFront a d x) (sym (one_more m.log event))
+            (front_last a d d [] gathered (log_text m.log ++ line_of (spelling event)) (sends_more a b d [] text gathered (log_text m.log) (line_of (spelling event)) m.sends out) (front_none d gathered));
+      },
+      ahead_same parts (m.rows ++ row ∷ []) p old new (ahead_taken parts m.rows row m.ahead) there f.still.0,
+    )
 
 -- where the rest can't be written
-pub stops_at_end : (start parts : List PartRead) (heads : List (Option ClockedRow)) (numbers : Numbers) (a b d : Option (List ℕ)) (text : List ℕ) (e : MergeFault) → IsMerging start parts heads numbers a b text → WritesFront b d text → IsOfWriting e → StopsMerge start a d e
-stops_at_end start parts heads numbers a b d text e m out w = record {
-  rows = m.rows;
-  log = m.log;
-  begins = begins_merge start parts heads m.rows m.log m.merged;
-  wrong = of_writing start m.rows m.log e w;
-  written = front_last a b d [] text (log_text m.log) m.sends out;
-}
+pub stops_at_end : (start parts : List PartRead) (heads : List (Option ClockedRow)) (numbers : Numbers) (a b d : Option (List ℕ)) (text : List ℕ) (e : MergeFault) → IsMerging start parts heads numbers a b text → WritesFront b d text → IsOfWriting e → StopsReading start parts a d e
+stops_at_end start parts heads numbers a b d text e m out w = (
+  record {
+    rows = m.rows;
+    log = m.log;
+    begins = begins_merge start parts heads m.rows m.log m.merged;
+    wrong = of_writing start m.rows m.log e w;
+    written = front_last a b d [] text (log_text m.log) m.sends out;
+  },
+  m.ahead,
+)
+
+-- where it stops, without what was read
+pub stops_merge : (start parts : List PartRead) (a b : Option (List ℕ)) (r : Result Unit MergeFault) → IfErr r (λ e. StopsReading start parts a b e) → IfErr r (λ e. StopsMerge start a b e)
+stops_merge start parts a b (Ok u) s = tt
+stops_merge start parts a b (Err e) s = s.0

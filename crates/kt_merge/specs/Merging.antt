@@ -110,3 +110,11 @@ pub record StopsMerge (parts : List PartRead) (old new : Option (List ℕ)) (fau
   pub begins : BeginsMerge parts rows log
   pub wrong : IsMergeFaultAfter parts rows log fault
   pub written : WritesFront old new (log_text log)
+
+-- of each part no more was read than its rows among these, and the row that comes next
+abbrev pub AreReadTo : List PartRead → List ClockedRow → Type 0
+AreReadTo parts rows = (p : ℕ) (part : PartRead) → slice_get parts p ≡ Some part → part.count ≤ length (rows_of p rows) + 1
+
+-- a merge stops at its first fault, and these are its parts then: nothing was read after the fault
+abbrev pub StopsReading : List PartRead → List PartRead → Option (List ℕ) → Option (List ℕ) → MergeFault → Type 0
+StopsReading parts left old new fault = (stops : StopsMerge parts old new fault) × AreReadTo left stops.rows

@@ -1,11 +1,10 @@
 -- What callers see of a reader of a part.
 use Rattle.std.specs.Prelude.{◌≡◌, ◌<◌, ◌≤◌, ◌+◌, ℕ, Bool, true, false, List, [], Option, Some, None, option_map, Result, Ok, Err, IfSome}
-use Rattle.csv.specs.Reading.{default_config, strip_bom, records}
-use Rattle.kt_text.specs.Records.{FieldsTaken}
+use Rattle.kt_text.specs.Records.{FieldsTaken, text_records}
 use Rattle.kt_merge.specs.declared.part_fault.PartFault.{PartFault}
 use Rattle.kt_spacetime.specs.declared.named_rows.ClockedRow.{ClockedRow}
 use Rattle.kt_merge.specs.Spelling.{part_spelling}
-use Rattle.kt_merge.specs.Texts.{max_records, IsSpellable, IsPartFaultFrom}
+use Rattle.kt_merge.specs.Texts.{part_width, max_records, IsSpellable, IsPartFaultFrom}
 
 -- the records that are left, where the reader tells its bytes; whose part it is; how many rows it gave, and the clock of the
 -- last one; the fault that stopped it; whether it came to the end
@@ -19,7 +18,7 @@ pub record PartRead : Type 0 where
 
 -- the records of bytes, where they are known
 abbrev pub part_records : Option (List ℕ) → Option (List (List (List ℕ)))
-part_records bytes = option_map (λ text. records default_config (strip_bom text)) bytes
+part_records bytes = option_map (text_records part_width) bytes
 
 -- before the first record of these bytes
 abbrev pub part_unread : ℕ → Option (List ℕ) → PartRead

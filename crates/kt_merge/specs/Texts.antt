@@ -1,11 +1,16 @@
 -- Which rows the records of a part say, and what is first wrong in them.
 use Rattle.std.specs.Prelude.{◌≡◌, ◌≢◌, ◌≤◌, ◌<◌, ◌+◌, ◌^◌, ℕ, List, [], ◌∷◌, ◌++◌, length, map}
+use Rattle.kt_text.specs.Writing.{text_of}
 use Rattle.kt_merge.specs.declared.part_fault.PartFault.{PartFault}
 use Rattle.kt_merge.specs.declared.part_fault.PartFault.TheVariants.{Read, TooLong, Fields, Word, Number, Clock, Process, Memory}
 use Rattle.kt_merge.specs.declared.part_rows.FieldFault.{FieldFault}
 use Rattle.kt_merge.specs.declared.part_rows.FieldFault.TheVariants as field
 use Rattle.kt_spacetime.specs.declared.named_rows.ClockedRow.{ClockedRow}
 use Rattle.kt_merge.specs.Spelling.{part_spelling, IsFormed, IsFieldFault}
+
+-- how many fields a record has
+abbrev pub part_width : ℕ
+part_width = 6
 
 -- how many records a part has at most: one more than a log has rows
 abbrev pub max_records : ℕ
@@ -30,6 +35,13 @@ pub record IsPartText (p : ℕ) (text : List (List (List ℕ))) (rows : List Clo
   pub spelled : text ≡ map part_spelling rows
   pub part : IsPartFrom p 0 rows
   pub few : length rows ≤ max_records
+
+-- the text of a part's rows, and the line of one of them
+abbrev pub part_text : List ClockedRow → List ℕ
+part_text rows = text_of (map part_spelling rows)
+
+abbrev pub row_line : ClockedRow → List ℕ
+row_line row = part_text (row ∷ [])
 
 -- the fault of a part whose record has a wrong field
 abbrev pub fault_at_record : FieldFault → ℕ → PartFault

@@ -1,5 +1,7 @@
 //! Where the row stands that gives what another one names too early.
 
+ghost use Rattle.std.specs.Prelude.{◌≡◌, option_map, slice_get};
+
 use crate::fault::MergeFault;
 use crate::parts::Parts;
 use crate::reading::PartReader;
@@ -112,7 +114,9 @@ pub(crate) fn missing_at(
 
 impl<R: Read + Drop> Parts<R> {
     /// The reader of a process's part.
-    pub fn reader(&self, p: ProcNo) -> Option<&PartReader<R>> {
+    pub fn reader(&self, p: ProcNo) -> Option<&PartReader<R>>
+        ensures { option_map (λ r. r.now) result ≡ slice_get self.now p }
+    {
         self.readers.get(p.index())
     }
 

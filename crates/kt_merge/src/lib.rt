@@ -31,7 +31,7 @@ pub use giver::Giver;
 pub use laws::{causal_parts_merge, names_put_back, one_merge};
 pub use merging::merge_parts;
 pub use part_fault::PartFault;
-pub use part_laws::{part_faults_are_real, part_rows_have_one_spelling};
+pub use part_laws::{part_faults_are_real, part_rows_have_one_spelling, parts_are_read_back};
 pub use parts::Parts;
 pub use reading::{PartReader, read_part};
 pub use text::{Unmerged, merge_inputs};

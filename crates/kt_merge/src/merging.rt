@@ -10,7 +10,7 @@ ghost use Rattle.kt_text.specs.Writing.{line_of, Sends, WritesFront};
 ghost use Rattle.kt_merge.specs.declared.fault.RowFault.{RowFault as row_faults};
 ghost use Rattle.kt_merge.specs.Heads.{GiveHeads};
 ghost use Rattle.kt_merge.specs.Numbering.{ShowsGiven, IsRowFault};
-ghost use Rattle.kt_merge.specs.Merging.{ArePartsUnread, WritesMerge, IsRowwise, IsMergeFaultAfter, StopsMerge};
+ghost use Rattle.kt_merge.specs.Merging.{ArePartsUnread, WritesMerge, IsRowwise, IsMergeFaultAfter, StopsMerge, StopsReading, AreReadTo};
 
 use crate::fault::MergeFault;
 use crate::giver::missing_at;
@@ -31,7 +31,7 @@ use std::io::{Read, Write};
 /// for names.
 ///
 /// It is one pass: of each part one row is held, of each message and instance its number. After a fault a front part of the
-/// log of the rows before it is written.
+/// log of the rows before it is written, and nothing more is read.
 pub fn merge_parts<R: Read + Drop, W: Write>(
     alloc: Global,
     parts: &mut Parts<R>,
@@ -43,6 +43,8 @@ pub fn merge_parts<R: Read + Drop, W: Write>(
     // With names put back, the rows of each process are those of its part.
     ensures rowwise { OnOk result (IsRowwise parts.old (W.contents writer.old) (W.contents writer.new)) }
     ensures stopped { IfErr result (λ e. StopsMerge parts.old (W.contents writer.old) (W.contents writer.new) e) }
+    ensures unread { IfErr result (λ e.
+        StopsReading parts.old parts.new (W.contents writer.old) (W.contents writer.new) e) }
 {
     names_put_back();
     let mut numbers = Numbers::new(alloc)?;
@@ -67,7 +69,8 @@ fn merge_readers<R: Read + Drop, W: Write>(
     requires nothing { ShowsGiven numbers.old nothing_given }
     requires header { text.old.items ≡ line_of header }
     ensures merged { OnOk result (WritesMerge parts.old.items (W.contents writer.old) (W.contents writer.new)) }
-    ensures stopped { IfErr result (λ e. StopsMerge parts.old.items (W.contents writer.old) (W.contents writer.new) e) }
+    ensures stopped { IfErr result (λ e.
+        StopsReading parts.old.items parts.new.items (W.contents writer.old) (W.contents writer.new) e) }
 {
     read_heads(parts, heads)?;
     while let Some((part, row)) = least(heads.as_slice()) {
@@ -88,6 +91,7 @@ fn read_heads<R: Read + Drop>(
     requires unread { ArePartsUnread parts.old.items }
     ensures found { OnOk result (GiveHeads parts.old.items parts.new.items heads.new.items) }
     ensures fault { IfErr result (λ e. IsMergeFaultAfter parts.old.items [] [] e) }
+    ensures unread { IfErr result (λ e. AreReadTo parts.new.items []) }
 {
     heads.clear();
     for part in 0..parts.len() {

@@ -1,11 +1,11 @@
 //! Parts read from their text.
 
 ghost use Rattle.std.specs.Prelude.{◌≡◌, ◌≢◌, ◌<◌, ◌≤◌, ◌^◌, ◌+◌, ℕ, List, [], ◌∷◌, ◌++◌, length, Some, None, Ok, Err, IfOk, IfErr, IfSome, IfNone, OnSome, OnOk, true, false};
-ghost use Rattle.csv.specs.Reading.{default_config, strip_bom, records};
 ghost use Rattle.csv.specs.Records.{fields_of};
-ghost use Rattle.kt_text.specs.Records.{left_in, ReadsOn, FieldsTaken};
+ghost use Rattle.kt_text.specs.Records.{left_in, ReadsOn, FieldsTaken, text_records};
 ghost use Rattle.kt_merge.specs.Spelling.{part_spelling};
-ghost use Rattle.kt_merge.specs.Texts.{max_records, IsSpellable, IsPartFaultFrom, IsPartText, IsFirstPartFault};
+ghost use Rattle.kt_merge.specs.Texts.{part_width, max_records, IsSpellable, IsPartFaultFrom, IsPartText, IsFirstPartFault, IsOfPartText};
+ghost use Rattle.kt_merge.specs.Progress.{IsMetBy};
 ghost use Rattle.kt_merge.specs.Reading.{part_unread, part_records, IsPartUnread, StepsPart};
 
 use crate::part_fault::PartFault;
@@ -14,6 +14,7 @@ use csv::{ByteRecord, Reader};
 use kt_base::{Memory, ProcNo};
 use kt_log_text::Record;
 use kt_spacetime::ClockedRow;
+use kt_text::Capped;
 use kt_text::records::{next_record, read_records};
 use std::alloc::Global;
 use std::io::Read;
@@ -21,6 +22,9 @@ use std::marker::Model;
 
 // How many records a part has at most: one more than a log has rows.
 const MAX_RECORDS: u32 = 16_777_217;
+
+// How many fields a record of a part has.
+const PART_WIDTH: u32 = 6;
 
 #[derive(Clone, Copy)]
 enum Progress {
@@ -56,6 +60,7 @@ fn row_in(current: &ByteRecord, count: u32) -> Result<ClockedRow, PartFault>
         × (count < max_records)) }
     ensures fault { IfErr result (λ e. (p clock : ℕ) (rest : List (List (List ℕ)))
         → IsPartFaultFrom p count clock (fields_of current.now ∷ rest) e) }
+    ensures text { IfErr result IsOfPartText }
 {
     if count >= MAX_RECORDS {
         return Err(PartFault::TooLong);
@@ -83,6 +88,7 @@ fn own_row_in(
         × (count < max_records) × (clock ≤ row.clock) × (row.row.p ≡ process)) }
     ensures fault { IfErr result (λ e. (rest : List (List (List ℕ)))
         → IsPartFaultFrom process count clock (fields_of current.now ∷ rest) e) }
+    ensures text { IfErr result IsOfPartText }
 {
     let row = row_in(current, count)?;
     if row.clock < clock {
@@ -112,6 +118,7 @@ fn read_row<R: Read>(
     ensures ended { IfOk result (λ o. IfNone o (IfSome (left_in R.remaining records.old) (λ left. left ≡ []))) }
     ensures fault { IfErr result (λ e. IfSome (left_in R.remaining records.old)
         (λ left. IsPartFaultFrom process count clock left e)) }
+    ensures met { IfErr result (IsMetBy records.new) }
 {
     if !next_record(records, current)? {
         return Ok(None);
@@ -126,7 +133,7 @@ fn read_row<R: Read>(
 /// row.
 #[derive(Drop)]
 pub struct PartReader<R: Read + Drop> {
-    records: Box<Reader<R>>,
+    records: Box<Reader<Capped<R>>>,
     current: ByteRecord,
     process: ProcNo,
     count: u32,
@@ -152,7 +159,7 @@ impl<R: Read + Drop> PartReader<R> {
         ensures { IfOk result (λ r. r ≡ part_unread process (R.remaining reader)) }
     {
         Ok(PartReader {
-            records: read_records(alloc, reader)?,
+            records: read_records(alloc, reader, PART_WIDTH)?,
             current: ByteRecord::new(alloc),
             process,
             count: 0,
@@ -218,7 +225,7 @@ impl<R: Read + Drop> PartReader<R> {
 
     /// The reader underneath.
     pub fn source(&self) -> &R {
-        self.records.get_ref()
+        &self.records.get_ref().source
     }
 }
 
@@ -229,8 +236,10 @@ pub fn read_part<R: Read + Drop>(
     reader: R,
     process: ProcNo,
 ) -> Result<Vec<ClockedRow>, PartFault>
-    ensures found { IfOk result (λ rows. IfSome (R.remaining reader) (λ bytes. IsPartText process (records default_config (strip_bom bytes)) rows.items)) }
-    ensures fault { IfErr result (λ e. IfSome (R.remaining reader) (λ bytes. IsFirstPartFault process (records default_config (strip_bom bytes)) e)) }
+    ensures found { IfOk result (λ rows. IfSome (R.remaining reader)
+        (λ bytes. IsPartText process (text_records part_width bytes) rows.items)) }
+    ensures fault { IfErr result (λ e. IfSome (R.remaining reader)
+        (λ bytes. IsFirstPartFault process (text_records part_width bytes) e)) }
 {
     let mut part = PartReader::new(alloc, reader, process)?;
     let mut rows = Vec::new(alloc);

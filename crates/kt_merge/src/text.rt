@@ -1,7 +1,7 @@
 //! Parts of named inputs merged, and what is told where that stops.
 
-ghost use Rattle.std.specs.Prelude.{◌≤◌, length, IfErr, OnOk};
-ghost use Rattle.kt_merge.specs.Merging.{ArePartsUnread, StopsMerge, WritesMerge};
+ghost use Rattle.std.specs.Prelude.{◌≡◌, ◌≤◌, length, false, IfErr, OnOk};
+ghost use Rattle.kt_merge.specs.Merging.{ArePartsUnread, StopsMerge, StopsReading, WritesMerge};
 
 use crate::fault::{MergeFault, RowFault};
 use crate::giver::Giver;
@@ -32,10 +32,12 @@ impl Unmerged {
     }
 }
 
-/// Writes the log of these parts, of which none was read yet, as `merge_parts` does, and says what is told of a fault.
+/// Writes the log of these parts, of which none was read yet, as `merge_parts` does, and with `hints` says what is told of a
+/// fault: for that it may read on in one of them.
 pub fn merge_inputs<R: Read + Drop, W: Write>(
     alloc: Global,
     parts: &mut Parts<Input<R>>,
+    hints: bool,
     writer: &mut W,
 ) -> Result<(), Unmerged>
     requires few { length parts.old ≤ 64 }
@@ -43,9 +45,15 @@ pub fn merge_inputs<R: Read + Drop, W: Write>(
     ensures merged { OnOk result (WritesMerge parts.old (W.contents writer.old) (W.contents writer.new)) }
     ensures stopped { IfErr result (λ unmerged.
         StopsMerge parts.old (W.contents writer.old) (W.contents writer.new) unmerged.fault) }
+    ensures unread { hints ≡ false → IfErr result (λ unmerged.
+        StopsReading parts.old parts.new (W.contents writer.old) (W.contents writer.new) unmerged.fault) }
 {
     match merge_parts(alloc, parts, writer) {
         Ok(()) => Ok(()),
+        Err(fault) if !hints => Err(Unmerged {
+            fault,
+            told: Told::Nothing,
+        }),
         Err(fault) => {
             let met = fault;
             let told = told_of(parts, met);

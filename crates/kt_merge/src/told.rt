@@ -4,7 +4,7 @@ use crate::fault::{MergeFault, RowFault};
 use crate::part_fault::PartFault;
 use crate::text::Unmerged;
 use kt_log_text::Record;
-use kt_text::{Place, Shown, field_at, part_form};
+use kt_text::{FieldCount, Place, Shown, field_at, part_form};
 use std::fmt;
 
 /// A record of a part, as it was read.
@@ -13,7 +13,7 @@ pub(crate) struct ToldRecord {
     place: Place,
     // Where in its text its second field begins and ends, which is its word.
     word: (usize, usize),
-    fields: usize,
+    fields: FieldCount,
 }
 
 impl ToldRecord {
@@ -24,7 +24,10 @@ impl ToldRecord {
         ToldRecord {
             place: Place::of(file, fields, record.end),
             word: (start, start.saturating_add(field_at(fields, 1).len())),
-            fields: fields.len(),
+            fields: FieldCount {
+                found: fields.len(),
+                expected: 6,
+            },
         }
     }
 }
@@ -68,7 +71,7 @@ fn write_record<W: fmt::Write>(
     writeln!(f, "  {}", record.place)?;
     match fault {
         MergeFault::Part(_, PartFault::Fields(_)) => {
-            writeln!(f, "  {} fields, expected: 6\n  {form}", record.fields)
+            writeln!(f, "  {}\n  {form}", record.fields)
         }
         MergeFault::Part(_, PartFault::Clock(_)) => {
             f.write_str("  the clock is less than that of the record before\n")

@@ -4,3 +4,5 @@ pub mod RecordFacts
 pub mod ReaderFacts
 pub mod PieceFacts
 pub mod LineFacts
+pub mod CapFacts
+pub mod CappedFacts

@@ -1,7 +1,9 @@
 -- What a read of a record leaves of the records.
-use Rattle.std.proofs.Common.{◌≡◌, ℕ, List, [], ◌∷◌, Option, Some, None, option_map, true, false, refl, IfSome}
+use Rattle.std.proofs.Common.{◌≡◌, ◌∙◌, sym, ℕ, List, [], ◌∷◌, Option, Some, None, option_map, true, false, refl, IfSome}
 use Rattle.csv.specs.Machine.{Read, next_record}
-use Rattle.csv.specs.Reading.{ReadsNext, ReadRecord, NextIs, default_config, source_of, pending_of}
+use Rattle.csv.specs.Reading.{ReadsNext, ReadRecord, NextIs, ExplainsRead, default_config, source_of, pending_of, is_flexible, stops_reader}
+use Rattle.csv.specs.declared.error.ErrorKind.{ErrorKind}
+use Rattle.csv.specs.declared.error.ErrorKind.TheVariants as kind
 use Rattle.csv.specs.declared.parser.Config.{Config}
 use Rattle.csv.specs.declared.parser.State.{State}
 use Rattle.csv.specs.declared.reader.Reader.{Reader}
@@ -39,3 +41,12 @@ takes rem a b f set r = rw r.1 (takes_go default_config a.state b.state (source_
 pub ends : {R : Type 0} (rem : R → Option (List ℕ)) (a b : Reader R) (f : List (List ℕ)) → a.config ≡ default_config → ReadRecord rem a b false f
     → IfSome (left_in rem a) (λ left. left ≡ [])
 ends rem a b f set r = ends_go default_config a.state b.state (source_of rem a) (pending_of (rem b.rdr) b) f (rw set at r.0)
+
+-- where records may have any number of fields, every fault of a read of bytes stops the reader
+pub stops : {R : Type 0} (rem : R → Option (List ℕ)) (a b : Reader R) (why : ErrorKind) → is_flexible a ≡ true → ExplainsRead rem a b false why → stops_reader why ≡ true
+stops rem a b (kind.Io e) any h = refl
+stops rem a b kind.OutOfMemory any h = refl
+stops rem a b (kind.UnequalLengths pos expected len) any h = cc (sym any ∙ h.0)
+stops rem a b (kind.Utf8 pos err) any h = cc h.0
+stops rem a b (kind.Serialize text) any h = absurd h
+stops rem a b (kind.Deserialize pos err) any h = absurd h

@@ -29,6 +29,24 @@ impl fmt::Display for Limit {
     }
 }
 
+/// How many fields a record has, and how many it is to have: of those that are too many one is read.
+#[derive(Clone, Copy)]
+pub struct FieldCount {
+    pub found: usize,
+    pub expected: usize,
+}
+
+impl fmt::Display for FieldCount {
+    fn fmt<W: fmt::Write>(&self, f: &mut fmt::Formatter<W>) -> fmt::Result {
+        let FieldCount { found, expected } = self;
+        if found > expected {
+            write!(f, "more than {expected} fields, expected: {expected}")
+        } else {
+            write!(f, "{found} fields, expected: {expected}")
+        }
+    }
+}
+
 /// What a row of a log is to be that begins with this word: P and Q are processes, K is an instance, M a message.
 pub fn row_form(word: &[u8]) -> &'static str {
     match word {

@@ -52,3 +52,8 @@ returns-in_ok-verdict-in-None-clause-answer g c = λ source e.
     let seen = subst (λ (o : Option Verdict). HasSeen source c.loop-row.rows c.loop-row.judge c.args.certificates.now o) c.in-None.is (c.loop-row.invariant source e) in
     legal_answer c.loop-row.rows c.next.new.self c.loop-row.judge c.args.certificates.now _ seen (at_end c.in_ok-row.field-0 c.in_default.not-Some c.in_ok-row.ensures.steps)
     (λ rows h. c.in_ok-verdict-in-None.ensures rows h.walk.control.legal h.gathered)
+
+pub returns-in_err-row-clause-met : goal.returns-in_err-row-clause-met
+returns-in_err-row-clause-met g c =
+    let p = err_from_is_err_and c.from_residual.result c.from_residual.ensures.1 in
+    rw (p.1, p.2) (λ other. c.in_err-row.ensures.steps.kept)

@@ -4,7 +4,7 @@ use Rattle.std.proofs.lemmas.Result.{err_from_is_err_and}
 use Rattle.kt_meaning.specs.Names.{nothing_given, given_by}
 use Rattle.kt_spacetime.specs.declared.named_rows.ClockedRow.{ClockedRow}
 use Rattle.kt_merge.specs.Heads.{IsLeastHead, HasNoHead}
-use Rattle.kt_merge.proofs.MergingFacts.{HasNoNumber, merging_none, merging_more, none_left, writes_all, of_write_fault, stops_at_row, stops_in_writing, stops_at_part, stops_at_end}
+use Rattle.kt_merge.proofs.MergingFacts.{HasNoNumber, merging_none, merging_more, none_left, writes_all, of_write_fault, stops_first, stops_at_row, stops_in_writing, stops_at_part, stops_at_end}
 use Rattle.kt_merge.proofs.merging.merge_readers.Goals as goal
 
 pub loop-part-init : goal.loop-part-init
@@ -39,6 +39,11 @@ index_mut-requires-in-Some g c =
     let least = subst (λ (hs : List (Option ClockedRow)). IsLeastHead hs c.in-Some.part c.in-Some.row) c.as_slice.ensures.value c.in-Some.ensures.found in
     let in_heads = slice_get_within c.loop-part.heads.items c.in-Some.part (Some c.in-Some.row) least.is in
     omega (arith, in_heads)
+
+pub returns-in_err-read_heads-clause-stopped : goal.returns-in_err-read_heads-clause-stopped
+returns-in_err-read_heads-clause-stopped g c =
+    let p = err_from_is_err_and c.from_residual.result c.from_residual.ensures.1 in
+    rw (p.1, p.2) (stops_first c.args.parts.now.items c.read_heads.new.parts.items (g.W.Write.contents c.args.writer.now) c.in_err-read_heads.field-0.0 c.in_err-read_heads.ensures.fault c.in_err-read_heads.ensures.unread)
 
 pub returns-in_err-event-clause-stopped : goal.returns-in_err-event-clause-stopped
 returns-in_err-event-clause-stopped g c =
