@@ -12,7 +12,7 @@ use Rattle.kt_spacetime.specs.declared.verdict.Verdict.TheVariants.{Yes, No}
 use Rattle.kt_meaning.specs.Answers.{IsCheckerAnswer}
 use Rattle.kt_meaning.specs.Passing.{IsPassed}
 use Rattle.kt_meaning.proofs.Answering.{passed_of, yes_of}
-use Rattle.kt_program.specs.Stored.{BytesTold, IsVerdictOf, IsExact, is_yes, records_told}
+use Rattle.kt_program.specs.Stored.{BytesTold, IsVerdictOf, IsExact, is_yes, certificates_told, records_told}
 
 -- the records of a text
 abbrev Records : Type 0
@@ -45,4 +45,4 @@ exact_rows (Some text) certs_left rows certificates v says listed answer = λ ot
 -- the answer to what the bytes say is yes exactly where that passes
 pub judged_exactly : (log cert : BytesTold) (v : Verdict) → IsVerdictOf log cert v → IsExact log cert (is_yes v)
 judged_exactly log cert v judged =
-    exact_rows (records_told log) (records_told cert) judged.answer.rows judged.certificates v judged.answer.says judged.certificates_said judged.answer.answer
+    exact_rows (records_told log) (certificates_told cert) judged.answer.rows judged.certificates v judged.answer.says judged.certificates_said judged.answer.answer

@@ -1,9 +1,10 @@
 -- What the program answers to a stored log with its certificates.
-use Rattle.std.specs.Prelude.{◌≡◌, ◌≢◌, ◌↔◌, ℕ, Bool, true, false, Option, List, [], ◌∷◌, ◌++◌, IfSome}
+use Rattle.std.specs.Prelude.{◌≡◌, ◌≢◌, ◌↔◌, ℕ, Bool, true, false, Option, option_map, List, [], ◌∷◌, ◌++◌, IfSome}
 use Rattle.std.specs.Io.KnownBytes.{Appends}
 use Rattle.kt_spacetime.specs.declared.event.Event.{Event}
 use Rattle.kt_log_text.specs.declared.fault.LogFault.{LogFault}
 use Rattle.kt_log_text.specs.declared.fault.LogFault.TheVariants as log
+use Rattle.kt_text.specs.Records.{text_records}
 use Rattle.kt_log_text.specs.Reading.{rows_unread}
 use Rattle.kt_log_text.specs.Texts as rows
 use Rattle.kt_spacetime.specs.declared.certificate.Certificate.{Certificate}
@@ -24,13 +25,17 @@ use Rattle.kt_program.specs.declared.fault.AppFault.TheVariants as app
 abbrev pub BytesTold : Type 0
 BytesTold = Option (List ℕ)
 
--- the records of such bytes
+-- the records of such bytes, of a log
 abbrev pub records_told : BytesTold → Option (List (List (List ℕ)))
 records_told bytes = (rows_unread bytes).left
 
+-- those of certificates
+abbrev pub certificates_told : BytesTold → Option (List (List (List ℕ)))
+certificates_told bytes = option_map (text_records certs.certificate_width) bytes
+
 -- the bytes of a list of certificates say these
 abbrev pub SayCertificates : BytesTold → List Certificate → Type 0
-SayCertificates bytes certificates = IfSome (records_told bytes) (λ text. certs.IsCertText text certificates)
+SayCertificates bytes certificates = IfSome (certificates_told bytes) (λ text. certs.IsCertText text certificates)
 
 -- whether an answer of the checker is a yes
 abbrev pub is_yes : Verdict → Bool
@@ -47,7 +52,7 @@ pub record IsVerdictOf (log cert : BytesTold) (verdict : Verdict) : Type 0 where
 abbrev pub IsExact : BytesTold → BytesTold → Bool → Type 0
 IsExact log cert passed =
     IfSome (records_told log) (λ text. (read : List Event) → rows.IsLogText text read
-    → IfSome (records_told cert) (λ also. (certificates : List Certificate) → certs.IsCertText also certificates → (passed ≡ true) ↔ IsPassed read certificates))
+    → IfSome (certificates_told cert) (λ also. (certificates : List Certificate) → certs.IsCertText also certificates → (passed ≡ true) ↔ IsPassed read certificates))
 
 -- the line of an answer, and the lines below it
 abbrev pub answer_text : Answer → List ℕ → List ℕ
@@ -71,7 +76,7 @@ pub record JudgesFiles {F : Type 0} (told : F → BytesTold) (old new : BytesTol
 -- that was read; what could be written was read; nothing is said of want of memory
 abbrev pub IsRefusal : BytesTold → BytesTold → AppFault → Type 0
 IsRefusal of_rows of_certs (app.Log fault) = (fault ≢ log.Memory) × IfSome (records_told of_rows) (λ text. rows.IsFirstLogFault text fault)
-IsRefusal of_rows of_certs (app.Cert fault) = (fault ≢ cert.Memory) × IfSome (records_told of_certs) (λ text. certs.IsFirstCertificateFault text fault) × (read : List Event) × SaysRows of_rows read
+IsRefusal of_rows of_certs (app.Cert fault) = (fault ≢ cert.Memory) × IfSome (certificates_told of_certs) (λ text. certs.IsFirstCertificateFault text fault) × (read : List Event) × SaysRows of_rows read
 IsRefusal of_rows of_certs app.Write = (verdict : Verdict) × IsVerdictOf of_rows of_certs verdict
 IsRefusal of_rows of_certs app.Memory = Unit {0}
 IsRefusal of_rows of_certs (app.Run fault) = ⊥

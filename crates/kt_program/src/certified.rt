@@ -103,7 +103,7 @@ fn text_of_list(alloc: Global, certificates: &[Certificate]) -> Result<Vec<u8>, 
 
 /// Writes the certificates of the log in a file into the file that is named for them, else to `out`.
 ///
-/// Their file is made, or opened and emptied, once the log was found fit. With `hints` its rows are kept, so that what is wrong
+/// Their file is opened once the log was found fit, and appears whole. With `hints` its rows are kept, so that what is wrong
 /// with it can be told.
 #[inline(never)]
 pub(crate) fn certify_files<F: Files, O: Write>(
@@ -121,5 +121,5 @@ pub(crate) fn certify_files<F: Files, O: Write>(
     let mut read = ReadFiles::none();
     let log = open_input(files, Role::Log, log, &mut read)?;
     let text = certify_log(alloc, log, hints)?;
-    deliver(files, &read, text.as_slice(), cert, out)
+    deliver(files, alloc, &read, text.as_slice(), cert, out)
 }

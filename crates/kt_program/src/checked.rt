@@ -12,7 +12,7 @@ ghost use Rattle.kt_program.specs.Ending.{IsOfJudging, LeavesAnswer};
 ghost use Rattle.kt_program.specs.Stored.{IsExact, IsRefusal, IsVerdictOf, JudgesFiles, answer_text, is_yes, of_log, records_told, verdict_line};
 
 use crate::fault::{AppFailure, AppFault, Failure};
-use crate::outputs::{deliver, write_text};
+use crate::outputs::{print_text, write_text};
 use crate::sources::{ReadFiles, Role, open_input};
 use crate::stored::{log_failure, read_certificates};
 use kt_checker::check_rows;
@@ -130,6 +130,6 @@ pub(crate) fn check_files<F: Files, O: Write>(
     let cert = open_input(files, Role::Certificates, cert, &mut read)?;
     let answer = Answer::Checked(judge_texts(alloc, log, cert)?);
     let text = answer_text(alloc, &answer, "")?;
-    deliver(files, &read, text.as_slice(), None, out)?;
+    print_text(files, &read, text.as_slice(), out)?;
     Ok(answer.passes())
 }

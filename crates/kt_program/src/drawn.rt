@@ -26,8 +26,8 @@ use std::rt::Files;
 /// Draws rows of the log in a file into the file that is named for the picture, else to `out`.
 ///
 /// A log is drawn up to the first row that breaks a rule; that row is marked, and what comes after it is not read as rows.
-/// The line below says so, or that the log is legal, and with certificates what the checker answers. That file is made, or
-/// opened and emptied, once the picture was made.
+/// The line below says so, or that the log is legal, and with certificates what the checker answers. That file is opened once
+/// the picture was made, and appears whole.
 #[inline(never)]
 #[tactic(auto, using(crate::proofs::Pictures::leaves, crate::proofs::Pictures::of_names))]
 pub(crate) fn draw_files<F: Files, O: Write>(
@@ -45,7 +45,7 @@ pub(crate) fn draw_files<F: Files, O: Write>(
     let names = names_in(files, alloc, asked.names, &mut read)?;
     let log = open_input(files, Role::Log, asked.log, &mut read)?;
     let text = drawn_with(files, alloc, log, asked, &names, &mut read)?;
-    deliver(files, &read, text.as_slice(), asked.svg, out)?;
+    deliver(files, alloc, &read, text.as_slice(), asked.svg, out)?;
     Ok(Done::Drawn)
 }
 

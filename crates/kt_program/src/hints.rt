@@ -5,7 +5,7 @@ use crate::told::{Attempt, Told, ToldRecord};
 use kt_chain::CertTextFault;
 use kt_log_text::LogFault;
 use kt_promises::Hindrance;
-use kt_text::{certificate_form, row_form};
+use kt_text::{FieldCount, certificate_form, row_form};
 use std::fmt;
 
 // What a number of a record is to be.
@@ -81,6 +81,14 @@ fn line_reason(fault: &ProgramFault, hindrance: Option<Hindrance>) -> &'static s
     }
 }
 
+// How many fields a record has that is to have so many.
+fn count_of(record: &ToldRecord, expected: usize) -> FieldCount {
+    FieldCount {
+        found: record.fields,
+        expected,
+    }
+}
+
 // Writes what was expected of a record that begins with this word.
 fn write_reason<W: fmt::Write>(
     f: &mut fmt::Formatter<W>,
@@ -88,11 +96,9 @@ fn write_reason<W: fmt::Write>(
     record: &ToldRecord,
     word: &[u8],
 ) -> fmt::Result {
-    let (row, certificate, fields) = (row_form(word), certificate_form(word), record.fields);
+    let (row, certificate) = (row_form(word), certificate_form(word));
     match fault {
-        AppFault::Log(LogFault::Fields(_)) => {
-            writeln!(f, "  {fields} fields, expected: 4\n  {row}")
-        }
+        AppFault::Log(LogFault::Fields(_)) => { writeln!(f, "  {}\n  {row}", count_of(record, 4)) }
         AppFault::Log(LogFault::Word(_)) => writeln!(f, "  {row}"),
         AppFault::Log(LogFault::Number(_)) => match record.beyond {
             Some(limit) => writeln!(f, "  {limit}"),
@@ -105,7 +111,7 @@ fn write_reason<W: fmt::Write>(
             f.write_str("  a first record that begins with kt is kt,2,-,-\n")
         }
         AppFault::Cert(CertTextFault::Fields(_)) => {
-            writeln!(f, "  {fields} fields, expected: 5\n  {certificate}")
+            writeln!(f, "  {}\n  {certificate}", count_of(record, 5))
         }
         AppFault::Cert(CertTextFault::Word(_) | CertTextFault::Place(_)) => {
             writeln!(f, "  {certificate}")

@@ -13,7 +13,7 @@ ghost use Rattle.kt_program.specs.Stored.{answer_text};
 use crate::checked::answer_text;
 use crate::fault::{AppFailure, AppFault, Failure};
 use crate::line::Judging;
-use crate::outputs::deliver;
+use crate::outputs::print_text;
 use crate::sources::{ReadFiles, Role, open_input};
 use crate::stored::{read_log, read_stored};
 use kt_explain::{Lines, Numbered, RecordLines, Told, judge};
@@ -57,7 +57,7 @@ pub(crate) fn judge_files<F: Files, O: Write>(
     let mut read = ReadFiles::none();
     let stored = log_in(files, alloc, asked, &mut read)?;
     let answered = answer_to(alloc, stored, asked)?;
-    deliver(files, &read, answered.text.as_slice(), None, out)?;
+    print_text(files, &read, answered.text.as_slice(), out)?;
     Ok(answered.passed)
 }
 

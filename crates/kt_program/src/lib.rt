@@ -2,7 +2,7 @@
 //! statuses.
 //!
 //! **What to change where:** the command line `ask.rt`, `line.rt`, `words.rt`; names of files that clash `names.rt`,
-//! files that are the same `files.rt`, outputs `outputs.rt`; closed streams `streams.rt`; a scenario run from its
+//! files that are the same `files.rt`, outputs `outputs.rt`, files that appear whole `whole.rt`; closed streams `streams.rt`; a scenario run from its
 //! files `running.rt`, over new objects `runs.rt` (`specs/Made`), over given ones `played.rt`; its objects
 //! `casts.rt`, its texts `inputs.rt`, that it lost no message `laws.rt`; a stored run `checked.rt`, a log alone, or
 //! with what is told of the answer, `judging.rt`; a stored log certified `certified.rt`, or drawn
@@ -34,6 +34,7 @@ mod sources;
 mod stored;
 pub mod streams;
 pub mod told;
+mod whole;
 pub mod words;
 
 pub use ask::{AskFault, asked};

@@ -1,19 +1,18 @@
 //! Parts merged.
 
-ghost use Rattle.std.specs.Prelude.{◌≡◌, ◌≢◌, ◌≤◌, ℕ, List, length, IfOk, IfErr, OnOk};
-ghost use Rattle.std.specs.Io.KnownBytes.{Appends};
+ghost use Rattle.std.specs.Prelude.{◌≡◌, ◌≤◌, ℕ, List, length, IfOk, IfErr, OnOk};
 ghost use Rattle.kt_merge.specs.Merging.{ArePartsUnread};
 ghost use Rattle.kt_program.specs.declared.ending.Done.TheVariants.{Merged};
-ghost use Rattle.kt_program.specs.declared.fault.AppFault.TheVariants as app;
 ghost use Rattle.kt_program.specs.Merged.{AreReadFrom, IsMergedText, IsOfMerging, LeavesMerge, MergesTo, of_merge};
 
 use crate::ending::Done;
-use crate::fault::{AppFailure, AppFault, Failure, ProgramFault};
+use crate::fault::{AppFailure, AppFault, Failure};
 use crate::line::Merging;
 use crate::names::{Name, STANDARD, is_standard};
-use crate::outputs::{Targets, outputs_of, write_text};
+use crate::outputs::print_text;
 use crate::sources::{ReadFiles, Role, open_input};
 use crate::told::Told;
+use crate::whole::{finish, give_up, whole_of, write_finished};
 use kt_base::ProcNo;
 use kt_merge::{MergeFault, Parts, Unmerged, merge_inputs};
 use kt_text::Input;
@@ -21,18 +20,16 @@ use std::alloc::Global;
 use std::io::{Read, Write};
 use std::rt::Files;
 
-/// What stands at the end of a log that stops at a fault. No reader takes it.
-const STOPPED: &[u8] = b"stopped\n";
-
 /// Writes the log of the parts in files into the file that is named for it, else to `out`.
 ///
-/// To `out` goes the whole log or nothing. A file is made, or opened and emptied, before the parts are read, and written as
-/// they are; at a fault it ends with the record `stopped`.
+/// To `out` goes the whole log or nothing. A file is written as the parts are read, and appears whole. With `hints` one of the
+/// parts may be read on after a fault.
 #[inline(never)]
 pub(crate) fn merge_files<F: Files, O: Write>(
     files: &F,
     alloc: Global,
     asked: &Merging<'_>,
+    hints: bool,
     out: &mut O,
 ) -> Result<Done, Failure>
     requires { length asked.now.parts.items ≤ 64 }
@@ -44,10 +41,12 @@ pub(crate) fn merge_files<F: Files, O: Write>(
     let mut read = ReadFiles::none();
     let mut parts = parts_in(files, alloc, asked.parts.as_slice(), &mut read)?;
     if is_standard(asked.log) {
-        print_merged(alloc, &mut parts, out)?;
+        let text = merged_text(alloc, &mut parts, hints)?;
+        print_text(files, &read, text.as_slice(), out)?;
         return Ok(Done::Merged);
     }
-    merge_into(files, alloc, &mut parts, &read, asked.log)?;
+    let name = asked.log.unwrap_or(STANDARD);
+    merge_into(files, alloc, &mut parts, hints, &read, name)?;
     Ok(Done::Merged)
 }
 
@@ -75,56 +74,60 @@ fn parts_in<'a, F: Files>(
     Ok(parts)
 }
 
-// Writes the log of these parts, all of it or nothing.
-fn print_merged<R: Read + Drop, O: Write>(
+// The text of the log of these parts.
+fn merged_text<R: Read + Drop>(
     alloc: Global,
     parts: &mut Parts<Input<R>>,
-    out: &mut O,
-) -> Result<(), AppFailure>
+    hints: bool,
+) -> Result<Vec<u8>, AppFailure>
     requires few { length parts.old ≤ 64 }
     requires unread { ArePartsUnread parts.old }
-    ensures merged { OnOk result ((text : List ℕ) × IsMergedText parts.old text
-        × Appends (O.contents out.old) (O.contents out.new) text) }
-    ensures kept { IfErr result (λ failure. failure.fault ≢ app.Write → O.contents out.new ≡ O.contents out.old) }
+    ensures text { IfOk result (λ text. IsMergedText parts.old text.items) }
 {
     let mut text = Vec::new(alloc);
-    if let Err(unmerged) = merge_inputs(alloc, parts, &mut text) {
-        return Err(unmerged_failure(parts, unmerged));
+    match merge_inputs(alloc, parts, hints, &mut text) {
+        Ok(()) => Ok(text),
+        Err(unmerged) => Err(unmerged_failure(parts, unmerged)),
     }
-    write_text(text.as_slice(), out)?;
-    Ok(())
 }
 
-// Writes the log of these parts into the file of this name, which is none of those that were read.
+// Writes the log of these parts as the whole of the file of this name, which is none of those that were read.
 fn merge_into<F: Files>(
     files: &F,
     alloc: Global,
     parts: &mut Parts<Input<F::File>>,
+    hints: bool,
     read: &ReadFiles<'_>,
-    log: Name<'_>,
+    name: &str,
 ) -> Result<(), Failure>
     requires few { length parts.old ≤ 64 }
     requires unread { ArePartsUnread parts.old }
     ensures merged { OnOk result ((text : List ℕ) × IsMergedText parts.old text) }
     ensures fault { IfErr result (λ failure. IsOfMerging failure.fault) }
 {
-    let targets = Targets {
-        log,
-        ..Targets::default()
-    };
-    let mut outputs = outputs_of(files, read, &targets)?;
-    outputs.empty(read)?;
-    let Err(unmerged) = merge_inputs(alloc, parts, &mut outputs.log) else {
+    let mut whole = whole_of(files, alloc, read, name)?;
+    if whole.is_seen() {
+        let text = merged_text(alloc, parts, hints)?;
+        write_finished(files, whole, text.as_slice())?;
         return Ok(());
-    };
-    let _ = write_text(STOPPED, &mut outputs.log);
-    if matches!(unmerged.fault, MergeFault::Write) {
-        return Err(Failure {
-            fault: ProgramFault::App(AppFault::Write),
-            told: outputs.told(),
-        });
     }
-    Err(Failure::from(unmerged_failure(parts, unmerged)))
+    match merge_inputs(alloc, parts, hints, &mut whole) {
+        Ok(()) => {
+            finish(files, whole)?;
+            Ok(())
+        }
+        Err(unmerged) => Err(give_up(files, whole, unwritten(parts, unmerged))),
+    }
+}
+
+// Why the log of these parts is not written into a file.
+fn unwritten<R: Read + Drop>(parts: &Parts<Input<R>>, unmerged: Unmerged) -> Failure
+    ensures { IsOfMerging result.fault }
+{
+    match unmerged.fault {
+        MergeFault::Write => Failure::from(AppFault::Write),
+        _ => Failure::from(unmerged_failure(parts, unmerged)),
+    }
 }
 
 // Why these parts have no log, with what is told of that.

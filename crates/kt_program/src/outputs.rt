@@ -1,22 +1,24 @@
-//! Where a log, certificates, steps and texts made of stored files go.
+//! Where a run's log, certificates and steps go, and texts made of stored files.
 
-ghost use Rattle.std.specs.Prelude.{◌≡◌, ◌≢◌, ◌⊎◌, IfOk, IfErr, OnOk, OnErr};
+ghost use Rattle.std.specs.Prelude.{◌≡◌, ◌≢◌, IfOk, IfErr, OnOk, OnErr};
 ghost use Rattle.std.specs.Io.KnownBytes.{Appends};
 ghost use Rattle.kt_text.specs.Writing.{WritesFront};
 ghost use Rattle.kt_program.specs.declared.fault.AppFault.TheVariants as app;
 ghost use Rattle.kt_program.specs.declared.fault.ProgramFault.TheVariants as program;
 ghost use Rattle.kt_program.specs.Ending.{IsOfOutputs};
 ghost use Rattle.kt_program.specs.Files.{AreOthers};
-ghost use Rattle.kt_program.specs.Outputs.{TextGoesTo, contents_of, files_of, keep_for, number_of};
+ghost use Rattle.kt_program.specs.Outputs.{IsOfWhole, TextGoesTo, contents_of, files_of, keep_for, number_of};
 
 use crate::fault::{AppFault, Failure, ProgramFault};
 use crate::files::{FileNumber, is_one, is_twice, number_of, number_of_metadata};
-use crate::names::{is_standard, target_of};
+use crate::names::{STANDARD, is_standard, target_of};
 use crate::sources::ReadFiles;
 use crate::told::{Attempt, Told};
+use crate::whole::{whole_of, write_finished};
 use kt_run::Keep;
 use kt_text::Shown;
 use kt_text::pieces::write_whole;
+use std::alloc::Global;
 use std::fs::{OpenFile, OpenOptions};
 use std::io::{Sink, Write};
 use std::rt::Files;
@@ -47,18 +49,40 @@ pub(crate) struct Targets<'a> {
     pub(crate) log: Option<&'a str>,
     pub(crate) cert: Option<&'a str>,
     pub(crate) kept: Option<&'a str>,
-    pub(crate) svg: Option<&'a str>,
 }
 
-/// What a command writes: a log, certificates, the steps of a run, a text that was made of stored files; and which regular file
-/// standard output is, where that is written and told.
+/// What a run writes: a log, certificates, its steps; and which regular file standard output is, where that is written and
+/// told.
 #[derive(Drop)]
 pub(crate) struct Outputs<W> {
     pub(crate) log: Output<W>,
     pub(crate) cert: Output<W>,
     pub(crate) kept: Output<W>,
-    pub(crate) svg: Output<W>,
     pub(crate) printed: Option<FileNumber>,
+}
+
+impl<W: OpenFile> Named<W> {
+    /// A file that was opened by this name.
+    pub(crate) fn of(file: W, name: Shown) -> Named<W>
+        ensures { result.file ≡ file }
+    {
+        Named {
+            number: number_of(&file),
+            file,
+            name,
+            why: None,
+        }
+    }
+}
+
+impl<W> Named<W> {
+    /// What is told of a write to it that failed.
+    pub(crate) fn told(&self) -> Option<Told> {
+        match &self.why {
+            Some(error) => Some(Told::attempt(Attempt::Write, self.name, error)),
+            None => None,
+        }
+    }
 }
 
 impl<W: Write> Write for Named<W> {
@@ -108,33 +132,29 @@ impl<W> Output<W> {
 
     // What is told of a write to it that failed.
     fn told(&self) -> Option<Told> {
-        let Output::File(named) = self else {
-            return None;
-        };
-        match &named.why {
-            Some(error) => Some(Told::attempt(Attempt::Write, named.name, error)),
-            None => None,
+        match self {
+            Output::File(named) => named.told(),
+            Output::Nowhere(_) => None,
         }
     }
 }
 
 impl<W> Outputs<W> {
     // Which regular files they are, standard output too.
-    fn files(&self) -> [Option<FileNumber>; 5]
+    fn files(&self) -> [Option<FileNumber>; 4]
         ensures { result ≡ files_of self.now }
     {
         [
             self.log.number(),
             self.cert.number(),
             self.kept.number(),
-            self.svg.number(),
             self.printed,
         ]
     }
 
     /// What is told of a write that failed: to one of these, or else to standard output.
     pub(crate) fn told(&self) -> Told {
-        for output in [&self.log, &self.cert, &self.kept, &self.svg] {
+        for output in [&self.log, &self.cert, &self.kept] {
             if let Some(told) = output.told() {
                 return told;
             }
@@ -183,8 +203,8 @@ pub(crate) fn outputs_of<F: Files>(
 }
 
 // What is told of a file that is one of the others: both names.
-fn told_twice(read: &ReadFiles<'_>, found: &[Option<FileNumber>; 5], names: &Targets<'_>) -> Told {
-    let written = [names.log, names.cert, names.kept, names.svg, None];
+fn told_twice(read: &ReadFiles<'_>, found: &[Option<FileNumber>; 4], names: &Targets<'_>) -> Told {
+    let written = [names.log, names.cert, names.kept, None];
     for (place, output) in found.iter().enumerate() {
         let name = written[place].unwrap_or("standard output");
         for (other, input) in read.numbers.iter().zip(&read.names) {
@@ -209,7 +229,6 @@ fn opened_outputs<F: Files>(files: &F, names: &Targets<'_>) -> Result<Outputs<F:
         log: open_output(files, names.log)?,
         cert: open_output(files, names.cert)?,
         kept: open_output(files, names.kept)?,
-        svg: open_output(files, names.svg)?,
         printed: if names.prints {
             printed_file(files)
         } else {
@@ -239,12 +258,7 @@ fn open_output<F: Files>(files: &F, name: Option<&str>) -> Result<Output<F::File
         .create(true)
         .open(files, target_of(name));
     match made {
-        Ok(file) => Ok(Output::File(Named {
-            number: number_of(&file),
-            file,
-            name: shown,
-            why: None,
-        })),
+        Ok(file) => Ok(Output::File(Named::of(file, shown))),
         Err(error) => Err(Failure {
             fault: ProgramFault::App(AppFault::Write),
             told: Told::attempt(Attempt::Make, shown, &error),
@@ -258,7 +272,7 @@ impl<W: OpenFile> Outputs<W> {
         requires { AreOthers _read.now.numbers (files_of self.now) }
         ensures { IfErr result (λ failure. failure.fault ≡ program.App app.Write) }
     {
-        for output in [&self.log, &self.cert, &self.kept, &self.svg] {
+        for output in [&self.log, &self.cert, &self.kept] {
             if let Output::File(named) = output {
                 if empty_file(&named.file).is_err() {
                     return Err(Failure::from(AppFault::Write));
@@ -269,8 +283,8 @@ impl<W: OpenFile> Outputs<W> {
     }
 }
 
-// Empties a regular file. Others, as pipes and terminals, have nothing that could be taken away.
-fn empty_file<W: OpenFile>(file: &W) -> io::Result<()> {
+/// Empties a regular file. Others, as pipes and terminals, have nothing that could be taken away.
+pub(crate) fn empty_file<W: OpenFile>(file: &W) -> io::Result<()> {
     if file.metadata()?.is_file() {
         file.set_len(0)?;
     }
@@ -289,37 +303,45 @@ pub(crate) fn write_text<W: Write>(text: &[u8], writer: &mut W) -> Result<(), Ap
     }
 }
 
-/// Writes a text that was made of files that were read: into the file of this name, which is none of them and is emptied first,
-/// or to `out` where none is named, or `-` is.
+/// Writes a text to `out`, which is none of the files that were read, as far as that is told.
+pub(crate) fn print_text<F: Files, O: Write>(
+    files: &F,
+    read: &ReadFiles<'_>,
+    text: &[u8],
+    out: &mut O,
+) -> Result<(), Failure>
+    ensures printed { OnOk result (Appends (O.contents out.old) (O.contents out.new) text.now) }
+    ensures fault { IfErr result (λ failure. IsOfOutputs failure.fault) }
+    ensures kept { IfErr result (λ failure. failure.fault ≢ program.App app.Write → O.contents out.new ≡ O.contents out.old) }
+{
+    let targets = Targets {
+        prints: true,
+        ..Targets::default()
+    };
+    outputs_of(files, read, &targets)?;
+    write_text(text, out)?;
+    Ok(())
+}
+
+/// Writes a text that was made of files that were read: as the whole of the file of this name, which is none of them, or to
+/// `out` where none is named, or `-` is.
 pub(crate) fn deliver<F: Files, O: Write>(
     files: &F,
+    alloc: Global,
     read: &ReadFiles<'_>,
     text: &[u8],
     name: Option<&str>,
     out: &mut O,
 ) -> Result<(), Failure>
     ensures output { OnOk result (TextGoesTo name.entry text.now (O.contents out.old) (O.contents out.new)) }
-    ensures fault { IfErr result (λ failure. (failure.fault ≡ program.SameFile)
-        ⊎ (failure.fault ≡ program.App app.Write)) }
+    ensures fault { IfErr result (λ failure. IsOfWhole failure.fault) }
     ensures kept { IfErr result (λ failure. failure.fault ≢ program.App app.Write → O.contents out.new ≡ O.contents out.old) }
 {
-    let prints = is_standard(name);
-    let targets = Targets {
-        prints,
-        svg: if prints { None } else { name },
-        ..Targets::default()
-    };
-    let mut outputs = outputs_of(files, read, &targets)?;
-    if prints {
-        write_text(text, out)?;
+    if is_standard(name) {
+        print_text(files, read, text, out)?;
         return Ok(());
     }
-    outputs.empty(read)?;
-    match write_text(text, &mut outputs.svg) {
-        Ok(()) => Ok(()),
-        Err(fault) => Err(Failure {
-            fault: ProgramFault::App(fault),
-            told: outputs.told(),
-        }),
-    }
+    let whole = whole_of(files, alloc, read, name.unwrap_or(STANDARD))?;
+    write_finished(files, whole, text)?;
+    Ok(())
 }

@@ -126,7 +126,7 @@ pub fn carry_out<F: Files + Threads + Wait + Sync, O: Write>(
             Ok(Done::Certified)
         }
         Ok(Asked::Draw(picture)) => draw_files(files, alloc, &picture, out),
-        Ok(Asked::Merge(merging)) => merge_files(files, alloc, &merging, out),
+        Ok(Asked::Merge(merging)) => merge_files(files, alloc, &merging, hints, out),
         Err(AskFault::Line(error)) => match show_text(out, &error) {
             Ok(done) => Ok(done),
             Err(fault) => Err(Failure {

@@ -53,7 +53,6 @@ pub(crate) fn run_files<F: Files + Threads + Wait + Sync, O: Write>(
         log: run.log,
         cert: run.cert,
         kept: run.kept,
-        svg: None,
     };
     let mut outputs = outputs_of(rt, &read, &targets)?;
     outputs.empty(&read)?;

@@ -8,16 +8,16 @@ ghost use Rattle.kt_chain.specs.Texts as certs;
 ghost use Rattle.kt_checker.specs.Streamed.{SaysRows};
 ghost use Rattle.kt_program.specs.declared.fault.AppFault.TheVariants as app;
 ghost use Rattle.kt_program.specs.Judging.{Say};
-ghost use Rattle.kt_program.specs.Stored.{IsRefusal, SayCertificates, of_cert, of_log, records_told};
+ghost use Rattle.kt_program.specs.Stored.{IsRefusal, SayCertificates, certificates_told, of_cert, of_log, records_told};
 
 use crate::fault::{AppFailure, AppFault};
 use crate::told::Told;
 use csv::{ByteRecord, Reader};
-use kt_chain::{CertTextFault, read_certs_in};
+use kt_chain::{CERTIFICATE_WIDTH, CertTextFault, read_certs_in};
 use kt_log_text::{LogFault, RowReader, read_rows};
 use kt_spacetime::{Certificate, SpaceTime};
-use kt_text::Input;
 use kt_text::records::read_records;
+use kt_text::{Capped, Input};
 use std::alloc::Global;
 use std::io::Read;
 
@@ -105,9 +105,9 @@ pub(crate) fn read_certificates<C: Read + Drop>(
 ) -> Result<Vec<Certificate>, AppFailure>
     ensures certificates { IfOk result (λ certificates. SayCertificates (C.remaining cert.source) certificates.items) }
     ensures fault { IfErr result (λ failure. (f : CertFaults) × (failure.fault ≡ of_cert f)
-        × IfSome (records_told (C.remaining cert.source)) (λ text. certs.IsFirstCertificateFault text f)) }
+        × IfSome (certificates_told (C.remaining cert.source)) (λ text. certs.IsFirstCertificateFault text f)) }
 {
-    let mut records = read_records(alloc, cert)?;
+    let mut records = read_records(alloc, cert, CERTIFICATE_WIDTH)?;
     let mut current = ByteRecord::new(alloc);
     match read_certs_in(alloc, &mut records, &mut current) {
         Ok(certificates) => Ok(certificates),
@@ -117,13 +117,13 @@ pub(crate) fn read_certificates<C: Read + Drop>(
 
 // A fault of certificates, met at this record; want of memory is the program's own.
 fn certificates_failure<C: Read>(
-    records: &Reader<Input<C>>,
+    records: &Reader<Capped<Input<C>>>,
     current: &ByteRecord,
     fault: CertTextFault,
 ) -> AppFailure
     ensures { result.fault ≡ of_cert fault }
 {
-    let input = records.get_ref();
+    let input = &records.get_ref().source;
     let told = match fault {
         CertTextFault::Memory => return AppFailure::from(AppFault::Memory),
         CertTextFault::Read => Told::read(input),
