@@ -21,7 +21,7 @@ extern "C" {
 #endif
 
 /* The version of this header: kt_version() answers it. */
-#define KT_VERSION 2
+#define KT_VERSION 3
 
 /* What a call returns. */
 enum kt_status {
@@ -116,10 +116,12 @@ enum kt_parcel_kind {
  * where it says no. Its bytes may travel as they are between machines of one byte order. */
 typedef struct kt_parcel {
     uint32_t kind;      /* of enum kt_parcel_kind */
+    uint32_t from;      /* its sender, 0 to 63 */
+    uint32_t to;        /* its receiver, 0 to 63 */
     uint32_t initiator; /* who began the instance, 0 to 63 */
     uint32_t rollback;  /* of an ask: the instance is a rollback */
     uint32_t yes;       /* of a reply: willing; of a decision: commit */
-    uint64_t number;    /* which one of those from this sender to this receiver, from 1 */
+    uint64_t number;    /* which one of those from its sender to its receiver, from 1 */
     uint64_t clock;     /* of the step that put it */
     uint64_t count;     /* which one of those that its initiator began the instance is, 1 to 2^48 - 1 */
     uint64_t label;     /* of a message, 1 to 2^48 - 1; of an ask, where it may be 0 */
@@ -130,9 +132,9 @@ typedef struct kt_parcel {
 enum kt_input_kind {
     KT_SEND = 1,      /* it is to send a message with body to peer, which is out where there is a parcel for peer */
     KT_BEGIN = 2,     /* it is to begin an instance: a rollback or a checkpoint, where the object is able or not */
-    KT_FAIL = 3,      /* its object failed */
+    KT_FAIL = 3,      /* its object failed: until it is restored, messages that come are dropped */
     KT_REDELIVER = 4, /* it is to take the first message that it holds of peer */
-    KT_DELIVER = 5    /* a parcel of peer comes, where the object is able or not */
+    KT_DELIVER = 5    /* a parcel comes of peer, who is its sender, where the object is able or not */
 };
 
 /* An input of a node. What its kind does not name is not read. */
@@ -208,12 +210,16 @@ enum kt_node_fault {
     KT_NODE_COUNTS_SPENT = 9,   /* it began 2^48 - 1 instances */
     KT_NODE_CLOCK_SPENT = 10,   /* no clock follows */
     KT_NODE_GAP = 11,           /* parcels of this sender are missing: the next one is the one that is expected */
-    KT_NODE_OUT_OF_MEMORY = 12
+    KT_NODE_OUT_OF_MEMORY = 12,
+    KT_NODE_ASTRAY = 13,        /* the parcel's sender is not peer, or its receiver is another process */
+    KT_NODE_LEAP = 14,          /* the parcel's clock is more than 2^40 above the node's, or so is a message's label above those before */
+    KT_NODE_STALE = 15,         /* a message's label does not rise above the last one of its sender */
+    KT_NODE_NOT_BEGUN = 16      /* it is asked to join an instance of no process, or one of its own that it is not in */
 };
 
 /* The words of enum kt_node_fault, by number. */
 #define KT_NODE_WORDS {"", "state", "input", "unknown", "itself", "waits", "held first", "holds none", "labels spent", "counts spent", \
-    "clock spent", "gap", "memory"}
+    "clock spent", "gap", "memory", "astray", "leap", "stale", "not begun"}
 
 /* What a node's step puts out. A number is 0 where nothing is named: where no step was made all but fault, expected and needed are. */
 typedef struct kt_output {
@@ -232,11 +238,11 @@ typedef struct kt_output {
 } kt_output;
 
 #if defined(__cplusplus) && __cplusplus >= 201103L
-static_assert(sizeof(kt_answer) == 20 && sizeof(kt_fault) == 24 && sizeof(kt_parcel) == 56 && sizeof(kt_input) == 80
-                  && sizeof(kt_row) == 64 && sizeof(kt_act) == 16 && sizeof(kt_output) == 3920, "as the library has them");
+static_assert(sizeof(kt_answer) == 20 && sizeof(kt_fault) == 24 && sizeof(kt_parcel) == 64 && sizeof(kt_input) == 88
+                  && sizeof(kt_row) == 64 && sizeof(kt_act) == 16 && sizeof(kt_output) == 4432, "as the library has them");
 #elif defined(__STDC_VERSION__) && __STDC_VERSION__ >= 201112L
-_Static_assert(sizeof(kt_answer) == 20 && sizeof(kt_fault) == 24 && sizeof(kt_parcel) == 56 && sizeof(kt_input) == 80
-                   && sizeof(kt_row) == 64 && sizeof(kt_act) == 16 && sizeof(kt_output) == 3920, "as the library has them");
+_Static_assert(sizeof(kt_answer) == 20 && sizeof(kt_fault) == 24 && sizeof(kt_parcel) == 64 && sizeof(kt_input) == 88
+                   && sizeof(kt_row) == 64 && sizeof(kt_act) == 16 && sizeof(kt_output) == 4432, "as the library has them");
 #endif
 
 /* Judges a log with its certificates, as `koo_toueg check LOG CERT`. KT_YES or KT_NO: *answer says why, *fault is all 0. Else
@@ -272,10 +278,13 @@ uint32_t kt_merge(const kt_text *parts, size_t count, uint8_t *out, size_t out_s
 
 /* A node is the manager of one process, as bytes. What comes in is a command or a parcel of another node; what goes out are rows, acts and
  * parcels. Before any parcel of a step goes out, and before what was taken is acknowledged, all this is durable together: the
- * node's bytes after the step, its rows, its acts, and the parcels that it put until they are acknowledged. Who starts again after it was
- * killed goes on from there, gives its node KT_FAIL, since its object is gone, and at once KT_BEGIN of a rollback: a message that is
- * taken before that is dropped. In an open instance that is a row KT_ROW_REFUSED, and a rollback may abort: where an output says neither
- * busy nor up, KT_BEGIN of another one comes next. Who keeps the object itself with each step needs none of this: it did not fail.
+ * node's bytes after the step, its rows, its acts, and the parcels that it put until they are acknowledged. Where that fails the program
+ * ends: its node is ahead of its disk.
+ *
+ * Who starts again after it was killed goes on from there. Its object is lost, for the host alone: KT_FAIL would drop messages that
+ * come, for good. Until a KT_RESTORE the host gives able 0 and no KT_SEND, does nothing at KT_APPLY, and, where an output does not say
+ * busy, gives KT_BEGIN of a rollback: at once, and again after a pause where one was refused or aborted. Who keeps the object itself with
+ * each step needs none of this: nothing is lost.
  */
 
 /* Makes the node of process me of so many, at most 64, which is up and has done nothing. KT_YES: state begins with it, and *len is its

@@ -3,6 +3,7 @@
 use crate::cases::{Case, next_case};
 use crate::certified::show_certified;
 use crate::faults::refused;
+use crate::meetings::show_meetings;
 use crate::merging::{show_merge_fault, show_merged};
 use crate::runs::show_run;
 use crate::texts::{Form, Text, show_count, show_text};
@@ -24,11 +25,12 @@ enum Kind {
     Steps,
     Merged,
     MergeFaults,
+    Meetings,
     Runs,
 }
 
 // The files in the order in which they are shown; whether their texts are told by lines.
-static FILES: [(&str, Kind, bool); 12] = [
+static FILES: [(&str, Kind, bool); 13] = [
     ("logs", Kind::Logs, false),
     ("long-logs", Kind::Logs, true),
     ("certificates", Kind::Certificates, false),
@@ -40,6 +42,7 @@ static FILES: [(&str, Kind, bool); 12] = [
     ("long-steps", Kind::Steps, true),
     ("merged", Kind::Merged, false),
     ("merge-faults", Kind::MergeFaults, false),
+    ("meetings", Kind::Meetings, false),
     ("node-steps", Kind::Runs, false),
 ];
 
@@ -86,6 +89,7 @@ fn show_case<R: Print + AllocGlobal>(
         Kind::Steps => show_count(rt, title, "steps", count_steps(alloc, plan, text)),
         Kind::Merged => show_merged(rt, case),
         Kind::MergeFaults => show_merge_fault(rt, case),
+        Kind::Meetings => show_meetings(rt, case),
         Kind::Runs => show_run(rt, case),
     }
 }

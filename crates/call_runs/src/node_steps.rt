@@ -1,11 +1,11 @@
 //! Steps by their words.
 
-use kt_base::{Kind, ProcNo};
+use kt_base::{Kind, Label, ProcNo};
 use kt_node::{ClusterStep, Envelope, Input, NodeParcel};
 use kt_spacetime::{Count, InstName};
 
-// A process, by its number.
-fn process_of(word: Option<&str>) -> Option<ProcNo> {
+/// A process, by its number.
+pub(crate) fn process_of(word: Option<&str>) -> Option<ProcNo> {
     ProcNo::new(word?.parse().ok()?)
 }
 
@@ -50,14 +50,18 @@ pub(crate) fn forged_of(line: &str) -> Option<(ProcNo, Input)> {
     let initiator = process_of(words.next())?;
     let count = Count::new(words.next()?.parse().ok()?)?;
     let inst = InstName { initiator, count };
+    let (kind, label) = (Kind::Rollback, Label::new(0)?);
     let (willing, commit) = (false, true);
     let parcel = match verb {
+        "ask" => NodeParcel::Ask { inst, kind, label },
         "reply" => NodeParcel::Reply { inst, willing },
         "decide" => NodeParcel::Decide { inst, commit },
         _ => return None,
     };
     let clock = 0;
     let envelope = Envelope {
+        from,
+        to: at,
         number,
         clock,
         parcel,

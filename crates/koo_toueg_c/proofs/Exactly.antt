@@ -13,7 +13,7 @@ use Rattle.kt_meaning.proofs.Answering.{passed_of, yes_of}
 use Rattle.kt_explain.specs.Answers.{passes}
 use Rattle.kt_explain.specs.declared.answer.Answer.TheVariants.{Checked}
 use Rattle.koo_toueg_c.specs.Numbers.{answer_status}
-use Rattle.koo_toueg_c.specs.Stored.{IsVerdictOf, SayCertificates, SaysLog, records_in}
+use Rattle.koo_toueg_c.specs.Stored.{IsVerdictOf, SayCertificates, SaysLog, certificates_in, rows_in}
 
 -- the status of an answer of the checker
 abbrev status_of : Verdict → ℕ
@@ -34,6 +34,6 @@ pub exact : (text also : List ℕ) (v : Verdict) (status : ℕ) → IsVerdictOf 
     → (rows : List Event) (list : List Certificate) → SaysLog text rows → SayCertificates also list → (status ≡ 0) ↔ IsPassed rows list
 exact text also v status judged ends rows list says listed =
     subst (λ (s : ℕ). (s ≡ 0) ↔ IsPassed rows list) (sym ends)
-    (subst (λ (same : List Event). (status_of v ≡ 0) ↔ IsPassed same list) (one_log (records_in text) judged.answer.rows rows judged.answer.says says)
-    (subst (λ (same : List Certificate). (status_of v ≡ 0) ↔ IsPassed judged.answer.rows same) (one_text (records_in also) judged.certificates list judged.said listed)
+    (subst (λ (same : List Event). (status_of v ≡ 0) ↔ IsPassed same list) (one_log (rows_in text) judged.answer.rows rows judged.answer.says says)
+    (subst (λ (same : List Certificate). (status_of v ≡ 0) ↔ IsPassed judged.answer.rows same) (one_text (certificates_in also) judged.certificates list judged.said listed)
     (passes_or_not judged.answer.rows judged.certificates v judged.answer.answer)))

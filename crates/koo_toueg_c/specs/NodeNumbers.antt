@@ -76,13 +76,22 @@ parcel_meant x =
     else if x.kind == 4 then option_map (λ k. Decide k (truth_meant x.yes)) (inst_meant x.initiator x.count)
     else None
 
+abbrev pub envelope_between : KtParcel → ℕ → ℕ → NodeParcel → Envelope
+envelope_between x from to p =
+    record { from = from; to = to; number = x.number; clock = x.clock; parcel = p }
+
+abbrev pub envelope_from : KtParcel → ℕ → Option Envelope
+envelope_from x from =
+    option_and_then (λ to. option_map (envelope_between x from to) (parcel_meant x)) (process_meant x.to)
+
 abbrev pub envelope_meant : KtParcel → Option Envelope
-envelope_meant x =
-    option_map (λ p. record { number = x.number; clock = x.clock; parcel = p }) (parcel_meant x)
+envelope_meant x = option_and_then (envelope_from x) (process_meant x.from)
 
 abbrev pub no_parcel : KtParcel
 no_parcel = record {
   kind = 0;
+  from = 0;
+  to = 0;
   initiator = 0;
   rollback = 0;
   yes = 0;
@@ -105,7 +114,8 @@ parcel_told (Decide k c) = record (inst_parcel 4 k) { yes = of_truth c }
 
 abbrev pub parcel_numbers : Option Envelope → KtParcel
 parcel_numbers None = no_parcel
-parcel_numbers (Some e) = record (parcel_told e.parcel) { number = e.number; clock = e.clock }
+parcel_numbers (Some e) =
+    record (parcel_told e.parcel) { from = e.from; to = e.to; number = e.number; clock = e.clock }
 
 -- what comes to a node
 abbrev pub coming_of : KtInput → ℕ → Option Input
@@ -266,6 +276,7 @@ manager_number manager.HoldsNone = 7
 manager_number manager.LabelsSpent = 8
 manager_number manager.CountsSpent = 9
 manager_number manager.Memory = 12
+manager_number manager.NotBegun = 16
 
 abbrev pub refusal_number : Refusal → ℕ
 refusal_number refusal.State = 1
@@ -274,6 +285,9 @@ refusal_number (refusal.Node (fault.Manager f)) = manager_number f
 refusal_number (refusal.Node fault.ClockSpent) = 10
 refusal_number (refusal.Node (fault.Gap n)) = 11
 refusal_number refusal.Memory = 12
+refusal_number (refusal.Node fault.Astray) = 13
+refusal_number (refusal.Node fault.Leap) = 14
+refusal_number (refusal.Node fault.Stale) = 15
 
 abbrev pub expected_number : Refusal → ℕ
 expected_number (refusal.Node (fault.Gap n)) = n

@@ -1,6 +1,5 @@
 -- A node that is bytes: the states that they say, and how an input leads from one to the next one.
-use Rattle.std.specs.Prelude.{◌≡◌, ◌<◌, ◌≤◌, ◌+◌, ◌-◌, ◌^◌, ℕ, max, Bool, true, false, Option, Some, None, is_some, Err, List, [], ◌∷◌, length, map, slice_get, slice_index}
-use Rattle.kt_tables.specs.Calls.{Speaks}
+use Rattle.std.specs.Prelude.{◌≡◌, ◌<◌, ◌≤◌, ◌+◌, ◌-◌, ◌^◌, ◌⊎◌, ℕ, max, Bool, true, false, Option, Some, None, is_some, Result, Ok, Err, List, [], ◌∷◌, length, map, slice_get, slice_index}
 use Rattle.kt_meaning.specs.Past.{at_one}
 use Rattle.kt_text.specs.Writing.{text_of}
 use Rattle.kt_node.specs.Nodes.{NodeState, Doing, is_in_rollback}
@@ -13,8 +12,8 @@ use Rattle.kt_spacetime.specs.declared.named_rows.ClockedRow.{ClockedRow}
 use Rattle.kt_node.specs.Managers.{ShowsNode}
 use Rattle.kt_node.specs.Effects.{put_to, rows_told}
 use Rattle.kt_node.specs.Faults.{fault_at}
-use Rattle.kt_node.specs.Links.{NodeLinks, ShowsLinks, IsParcelRefusedAs}
-use Rattle.kt_node.specs.Looks.{clock_of, input_of, node_look}
+use Rattle.kt_node.specs.Links.{NodeLinks, ShowsLinks, IsGiven, IsParcelRefusedAs}
+use Rattle.kt_node.specs.Looks.{clock_of, input_of, meeting_at, node_look}
 use Rattle.kt_node.specs.declared.inputs.Input.{Input}
 use Rattle.kt_node.specs.declared.inputs.Input.TheVariants.{Send, Begin, Fail, Redeliver, Deliver}
 use Rattle.kt_node.specs.declared.node.Envelope.{Envelope}
@@ -23,8 +22,8 @@ use Rattle.kt_node.specs.declared.node.NodeFault.TheVariants as fault
 use Rattle.kt_node.specs.declared.node.Output.{Output}
 use Rattle.kt_node.specs.declared.node.Taken.{Taken}
 use Rattle.kt_node.specs.declared.node.Taken.TheVariants.{Step, Again}
-use Rattle.kt_node_text.specs.Form.{bytes_of, numbers_of}
-use Rattle.kt_node_text.specs.Sameness.{IsSound}
+use Rattle.kt_node_text.specs.Form.{text_of as node_text}
+use Rattle.kt_node_text.specs.Sameness.{IsOwn, IsSound}
 use Rattle.koo_toueg_c.specs.NodeNumbers.{act_numbers, input_meant, look_status, of_truth, parcel_numbers, part_row_meant, row_numbers, truth_meant}
 use Rattle.koo_toueg_c.specs.declared.node.input.KtInput.{KtInput}
 use Rattle.koo_toueg_c.specs.declared.node.output.KtOutput.{KtOutput}
@@ -35,8 +34,13 @@ use Rattle.koo_toueg_c.specs.declared.node.stepping.Step.{Step as StepMade}
 
 -- bytes are those of a node
 pub record SaysNode (bytes : List ℕ) (w : NodeLinks) : Type 0 where
+  pub own : IsOwn w
+  pub said : bytes ≡ node_text w
+
+-- and bytes are what is saved of a node
+pub record SavesNode (bytes : List ℕ) (w : NodeLinks) : Type 0 where
   pub sound : IsSound w
-  pub said : bytes ≡ bytes_of (numbers_of w)
+  pub said : bytes ≡ node_text w
 
 -- and so they say whatever state that node is
 pub record SaysState (bytes : List ℕ) (y : NodeState) : Type 0 where
@@ -49,10 +53,10 @@ pub record SaysNewNode (me processes : ℕ) (bytes : List ℕ) : Type 0 where
   pub there : (me < processes) × (processes ≤ 64)
   pub state : SaysState bytes ((opening_net processes 0).nodes me)
 
--- why there is no such node; nothing is said of want of memory
+-- why there is no such node
 abbrev pub IsNoNewNode : ℕ → ℕ → Refusal → Type 0
 IsNoNewNode me processes refusal.Input = (me < processes) × (processes ≤ 64) → ⊥
-IsNoNewNode me processes refusal.Memory = Unit {0}
+IsNoNewNode me processes refusal.Memory = (me < processes) × (processes ≤ 64)
 IsNoNewNode me processes refusal.State = ⊥
 IsNoNewNode me processes (refusal.Node f) = ⊥
 
@@ -65,26 +69,10 @@ TakesOne old new (Begin kind) = new.taken ≡ old.taken
 TakesOne old new Fail = new.taken ≡ old.taken
 TakesOne old new (Redeliver from) = new.taken ≡ old.taken
 
--- an input is a parcel that came before
-abbrev pub IsEarlier : NodeLinks → Input → Type 0
-IsEarlier w (Deliver from e) = e.number ≤ slice_index w.taken from
-IsEarlier w (Send to body) = ⊥
-IsEarlier w (Begin kind) = ⊥
-IsEarlier w Fail = ⊥
-IsEarlier w (Redeliver from) = ⊥
-
 -- an input makes a step, in order, or came before
 abbrev pub TakesInOrder : NodeLinks → NodeLinks → Input → Taken → Type 0
 TakesInOrder old new x (Step out) = TakesOne old new x
-TakesInOrder old new x Again = IsEarlier old x
-
--- a parcel comes too early: this one of its sender is the next one
-abbrev pub IsGapAt : NodeLinks → Input → ℕ → Type 0
-IsGapAt w (Deliver from e) n = (n ≡ slice_index w.taken from + 1) × (n < e.number)
-IsGapAt w (Send to body) n = ⊥
-IsGapAt w (Begin kind) n = ⊥
-IsGapAt w Fail n = ⊥
-IsGapAt w (Redeliver from) n = ⊥
+TakesInOrder old new x Again = Unit {0}
 
 -- what the rule does at an input, where its object can be saved or not
 abbrev pub rule_at : NodeState → Bool → Input → Doing
@@ -100,6 +88,7 @@ pub record PutsOut (out : Output) (d : Doing) : Type 0 where
 pub record IsNextOf (old new : NodeLinks) (x : Input) (d : Doing) (out : Output) : Type 0 where
   pub clock : new.clock ≡ max old.clock (clock_of x) + 1
   pub told : out.clock ≡ new.clock
+  pub sender : out.from ≡ new.manager.me
   pub sent : (q : ℕ) → q < 64 → slice_index new.sent q ≡ slice_index old.sent q + length (d.puts q)
   pub numbers : out.numbers ≡ new.sent
   pub taken : TakesOne old new x
@@ -110,15 +99,22 @@ pub record IsMadeOf (before : List ℕ) (x : Input) (d : Doing) (after : List �
   pub puts : PutsOut out d
   pub links : (w : NodeLinks) → SaysNode before w → (v : NodeLinks) × SaysNode after v × IsNextOf w v x d out
 
--- so it is of whatever state they said
-abbrev pub IsRuleOf : List ℕ → Bool → Input → List ℕ → Output → Type 0
-IsRuleOf before able x after out = (y : NodeState) → SaysState before y → Speaks ((rule_at y able x).state.calls) →
-    IsMadeOf before x (rule_at y able x) after out
+-- so it is of whatever state they said, which does not refuse the input
+pub record IsRuleOf (before : List ℕ) (able : Bool) (x : Input) (after : List ℕ) (out : Output) : Type 0 where
+  pub rule : (y : NodeState) → SaysState before y → IsMadeOf before x (rule_at y able x) after out
+  pub taken : (y : NodeState) → SaysState before y → fault_at y (input_of able x) ≡ None
+
+-- bytes are those of a node, and numbers mean an input, which it meets so
+pub record MeetsAs (before : List ℕ) (numbers : KtInput) (x : Input) (met : Result Bool NodeFault) : Type 0 where
+  pub meant : input_meant numbers ≡ Some x
+  pub node : NodeLinks
+  pub says : SaysNode before node
+  pub meets : (w : NodeLinks) → SaysNode before w → meeting_at w x ≡ met
 
 -- the step of a node that bytes say, at the input that numbers mean
 pub record IsStepOf (before : List ℕ) (numbers : KtInput) (after : List ℕ) (out : Output) : Type 0 where
   pub x : Input
-  pub meant : input_meant numbers ≡ Some x
+  pub met : MeetsAs before numbers x (Ok true)
   pub rule : IsRuleOf before (truth_meant numbers.able) x after out
 
 -- what a node holds that it could take now: something of this process, or nothing
@@ -132,11 +128,12 @@ HoldsNone w = (y : NodeState) (q : ℕ) → ShowsNode w.manager y →
 
 -- the parcel for a process, as it travels
 abbrev pub parcel_for : Output → ℕ → Option Envelope
-parcel_for out q = first_of out (slice_index out.numbers q) (put_to out.effects.parcels q)
+parcel_for out q = first_of out q (slice_index out.numbers q) (put_to out.effects.parcels q)
   where
-    first_of : Output → ℕ → List NodeParcel → Option Envelope
-    first_of out n [] = None
-    first_of out n (parcel ∷ rest) = Some (record { number = n; clock = out.clock; parcel = parcel })
+    first_of : Output → ℕ → ℕ → List NodeParcel → Option Envelope
+    first_of out q n [] = None
+    first_of out q n (parcel ∷ rest) =
+        Some (record { from = out.from; to = q; number = n; clock = out.clock; parcel = parcel })
 
 -- what a step puts out, and how its node stands by then, in numbers
 pub record TellsOutput (w : NodeLinks) (out : Output) (told : KtOutput) : Type 0 where
@@ -157,36 +154,38 @@ pub record TellsStep (before : List ℕ) (numbers : KtInput) (after : List ℕ) 
   pub out : Output
   pub step : IsStepOf before numbers after out
   pub node : NodeLinks
-  pub says : SaysNode after node
+  pub saves : SavesNode after node
   pub tells : TellsOutput node out told
 
 -- a parcel came before
 pub record IsAgainOf (before : List ℕ) (numbers : KtInput) : Type 0 where
   pub x : Input
-  pub meant : input_meant numbers ≡ Some x
-  pub earlier : (w : NodeLinks) → SaysNode before w → IsEarlier w x
+  pub met : MeetsAs before numbers x (Ok false)
 
 -- a step that was made, and its bytes; or a parcel that came before
 abbrev pub IsTaken : List ℕ → KtInput → Option StepMade → Type 0
 IsTaken before numbers None = IsAgainOf before numbers
 IsTaken before numbers (Some step) =
-    IsStepOf before numbers step.bytes.items step.output × SaysNode step.bytes.items step.node
+    IsStepOf before numbers step.bytes.items step.output × SavesNode step.bytes.items step.node
 
--- why a node that bytes say does not take an input
-pub record RefusesFor (before : List ℕ) (x : Input) (able : Bool) (f : NodeFault) : Type 0 where
+-- a node that bytes say refuses an input that is given to its manager
+pub record RefusesGiven (before : List ℕ) (x : Input) (able : Bool) (f : NodeFault) : Type 0 where
+  pub given : IsGiven {X = Taken} (Err f)
   pub rule : (y : NodeState) → SaysState before y →
       IsParcelRefusedAs (fault_at y (input_of able x)) (Err f)
   pub spent : f ≡ fault.ClockSpent → (w : NodeLinks) → SaysNode before w →
       2 ^ 64 - 2 ≤ max w.clock (clock_of x)
-  pub gap : (n : ℕ) (y : NodeState) → f ≡ fault.Gap n → SaysState before y → (w : NodeLinks) →
-      SaysNode before w → IsGapAt w x n
+
+-- it refuses an input: it does not meet it, or it is given to its manager
+abbrev pub RefusesFor : List ℕ → KtInput → Input → NodeFault → Type 0
+RefusesFor before numbers x f = MeetsAs before numbers x (Err f)
+    ⊎ (MeetsAs before numbers x (Ok true) × RefusesGiven before x (truth_meant numbers.able) f)
 
 -- why there is no step; nothing is said of want of memory
 abbrev pub IsNoStep : List ℕ → KtInput → Refusal → Type 0
 IsNoStep before numbers refusal.State = (w : NodeLinks) → SaysNode before w → ⊥
 IsNoStep before numbers refusal.Input = input_meant numbers ≡ None
-IsNoStep before numbers (refusal.Node f) = (x : Input) × (input_meant numbers ≡ Some x)
-    × RefusesFor before x (truth_meant numbers.able) f
+IsNoStep before numbers (refusal.Node f) = (x : Input) × RefusesFor before numbers x f
 IsNoStep before numbers refusal.Memory = Unit {0}
 
 -- what an input needs of the object of a node that bytes say, as a status

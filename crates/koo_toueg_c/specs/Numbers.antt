@@ -28,7 +28,7 @@ use Rattle.koo_toueg_c.specs.declared.fault.KtFault.{KtFault}
 
 -- the sizes, in bytes, of an answer, a fault and a length, and of a node's parcel, input, row, act and output
 abbrev pub struct_sizes : List ℕ
-struct_sizes = 20 ∷ 24 ∷ 8 ∷ 56 ∷ 80 ∷ 64 ∷ 16 ∷ 3920 ∷ []
+struct_sizes = 20 ∷ 24 ∷ 8 ∷ 64 ∷ 88 ∷ 64 ∷ 16 ∷ 4432 ∷ []
 
 -- 0 for a number that is not named
 abbrev pub or_zero : Option ℕ → ℕ

@@ -1,6 +1,5 @@
 -- What is made of stored texts, which are bytes in memory.
 use Rattle.std.specs.Prelude.{◌≡◌, ◌≢◌, ℕ, if◌then◌else◌, ◌==◌, Option, Some, None, List, [], ◌∷◌, ◌++◌, false}
-use Rattle.csv.specs.Reading.{default_config, strip_bom, records}
 use Rattle.kt_meaning.specs.Fitness.{IsUnfit}
 use Rattle.kt_certify.specs.Streamed.{AreCertified, AreRowsOf}
 use Rattle.kt_certify.specs.declared.fault.StreamFault.{StreamFault}
@@ -23,26 +22,31 @@ use Rattle.kt_explain.specs.declared.answer.Answer.TheVariants.{Checked}
 use Rattle.kt_log_text.specs.Texts as rows
 use Rattle.kt_log_text.specs.declared.fault.LogFault.TheVariants as log
 use Rattle.kt_spacetime.specs.declared.event.Event.{Event}
+use Rattle.kt_text.specs.Records.{text_records}
 use Rattle.kt_text.specs.Writing.{text_of}
 use Rattle.koo_toueg_c.specs.Numbers.{answer_status}
 use Rattle.koo_toueg_c.specs.declared.fault.Fault.{Fault}
 use Rattle.koo_toueg_c.specs.declared.fault.Fault.TheVariants.{Log, Certificates, Picture, Memory}
 
--- the records of a text
-abbrev pub records_in : List ℕ → List (List (List ℕ))
-records_in text = records default_config (strip_bom text)
+-- the records of a log's text
+abbrev pub rows_in : List ℕ → List (List (List ℕ))
+rows_in text = text_records rows.row_width text
+
+-- those of a text of certificates
+abbrev pub certificates_in : List ℕ → List (List (List ℕ))
+certificates_in text = text_records certs.certificate_width text
 
 -- a text says these rows
 abbrev pub SaysLog : List ℕ → List Event → Type 0
-SaysLog text read = rows.IsLogText (records_in text) read
+SaysLog text read = rows.IsLogText (rows_in text) read
 
 -- a text says these certificates
 abbrev pub SayCertificates : List ℕ → List Certificate → Type 0
-SayCertificates text list = certs.IsCertText (records_in text) list
+SayCertificates text list = certs.IsCertText (certificates_in text) list
 
 -- why a log is not read: its first fault; nothing is said of want of memory
 abbrev pub IsRefusalOfLog : List ℕ → Fault → Type 0
-IsRefusalOfLog text (Log fault) = (fault ≢ log.Memory) × rows.IsFirstLogFault (records_in text) fault
+IsRefusalOfLog text (Log fault) = (fault ≢ log.Memory) × rows.IsFirstLogFault (rows_in text) fault
 IsRefusalOfLog text (Certificates fault) = ⊥
 IsRefusalOfLog text (Picture w) = ⊥
 IsRefusalOfLog text Memory = Unit {0}
@@ -50,7 +54,7 @@ IsRefusalOfLog text Memory = Unit {0}
 -- the same of certificates
 abbrev pub IsRefusalOfCertificates : List ℕ → Fault → Type 0
 IsRefusalOfCertificates text (Log fault) = ⊥
-IsRefusalOfCertificates text (Certificates fault) = (fault ≢ cert.Memory) × certs.IsFirstCertificateFault (records_in text) fault
+IsRefusalOfCertificates text (Certificates fault) = (fault ≢ cert.Memory) × certs.IsFirstCertificateFault (certificates_in text) fault
 IsRefusalOfCertificates text (Picture w) = ⊥
 IsRefusalOfCertificates text Memory = Unit {0}
 
@@ -89,7 +93,7 @@ IsUnfitText text w = (read : List Event) × AreRowsOf (Some text) read × IsUnfi
 -- why a text is not certified: the first fault of a log, or why it has no certificates; nothing is said of want of memory
 abbrev pub IsUncertified : List ℕ → StreamFault → Type 0
 IsUncertified text (stream.Log log.Memory) = Unit {0}
-IsUncertified text (stream.Log fault) = rows.IsFirstLogFault (records_in text) fault
+IsUncertified text (stream.Log fault) = rows.IsFirstLogFault (rows_in text) fault
 IsUncertified text (stream.Unfit w) = IsUnfitText text w
 
 -- a text begins with the line of the checker's answer to rows and certificates, and this is the status of that answer

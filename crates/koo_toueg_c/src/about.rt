@@ -15,9 +15,9 @@ use std::mem::size_of;
 /// The version of these calls. It rises where a call, a struct or a number changes its meaning.
 #[unsafe(no_mangle)]
 pub extern "C" fn kt_version() -> u32
-    ensures { result ≡ 2 }
+    ensures { result ≡ 3 }
 {
-    2
+    3
 }
 
 /// The sizes, in bytes, of an answer, a fault and a length, and of a node's parcel, input, row, act and output; how many sizes

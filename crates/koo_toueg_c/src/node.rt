@@ -1,9 +1,10 @@
 //! One process's manager as bytes: what has to be durable of it, and what leads from one state to the next one.
 
-ghost use Rattle.std.specs.Prelude.{◌≡◌, ◌≢◌, ◌≤◌, ◌<◌, ◌+◌, ℕ, List, take, length, Some, None, IfOk, IfErr};
+ghost use Rattle.std.specs.Prelude.{◌≡◌, ◌≢◌, ◌≤◌, ◌<◌, ◌+◌, ◌↔◌, ℕ, List, take, length, Some, None, IfOk, IfErr};
 ghost use Rattle.kt_node.specs.declared.inputs.Input.{Input as Inputs};
 ghost use Rattle.kt_node.specs.declared.node.Output.{Output as Outputs};
 ghost use Rattle.koo_toueg_c.specs.declared.node.refusal.Refusal.{Refusal as Refusals};
+ghost use Rattle.koo_toueg_c.specs.declared.node.refusal.Refusal.TheVariants as refusal;
 ghost use Rattle.koo_toueg_c.specs.Buffers.{IsLeft, IsPut};
 ghost use Rattle.koo_toueg_c.specs.NodeNumbers.{input_meant, look_status, no_output, output_of_refusal, output_too_long, part_row_meant, refusal_status};
 ghost use Rattle.koo_toueg_c.specs.Nodes.{IsAgainOf, IsLookOf, IsNoNewNode, IsNoStep, IsRowText, IsStepOf, SaysNewNode, TellsOutput, TellsStep};
@@ -58,9 +59,10 @@ pub extern "C" fn kt_node_new(
         × IsPut bytes state.old state.new len.new }
     ensures short { result ≡ 5 → (bytes : List ℕ) × SaysNewNode me processes bytes
         × IsLeft bytes state.old state.new len.new }
-    ensures refused { result ≡ 2 → (me < processes) × (processes ≤ 64) → ⊥ }
+    ensures refused { (result ≡ 2) ↔ ((me < processes) × (processes ≤ 64) → ⊥) }
     ensures none { 2 ≤ result → result ≢ 5 → (state.new ≡ state.old) × (len.new ≡ 0) }
-    ensures status { result ≢ 1 }
+    ensures status { result ≤ 5 }
+    ensures other { (result ≢ 1) × (result ≢ 3) }
 {
     let bytes = match opening(alloc, me, processes) {
         Ok(bytes) => bytes,
@@ -86,7 +88,8 @@ pub extern "C" fn kt_node_step(
     input: &KtInput,
     output: &mut KtOutput,
 ) -> u32
-    // Its bytes say what the rule makes of the state that they said, and what the rule puts out is told.
+    // Each status has a condition, and none of these goes with another. Its bytes say what the rule makes of the state that
+    // they said, and what the rule puts out is told.
     ensures step { result ≡ 0 → (bytes : List ℕ)
         × TellsStep (take len.old state.old) input.now bytes output.new
         × IsPut bytes state.old state.new len.new }
@@ -98,7 +101,11 @@ pub extern "C" fn kt_node_step(
     ensures refused { 2 ≤ result → result ≢ 5 → (why : Refusals)
         × (len.old ≤ length state.old → IsNoStep (take len.old state.old) input.now why)
         × (output.new ≡ output_of_refusal why) × (result ≡ refusal_status why) }
+    ensures longer { length state.old < len.old →
+        (result ≡ 2) × (output.new ≡ output_of_refusal refusal.State) }
     ensures same { result ≢ 0 → (state.new ≡ state.old) × (len.new ≡ len.old) }
+    ensures status { result ≤ 5 }
+    ensures other { result ≢ 3 }
 {
     if *len > state.len() {
         return refuse(&Refusal::State, output);
@@ -122,6 +129,8 @@ pub extern "C" fn kt_node_look(alloc: Global, state: &[u8], input: &KtInput) -> 
     ensures look { result ≢ 4 → (x : Inputs) → input_meant input.now ≡ Some x →
         IsLookOf state.now x result }
     ensures none { result ≤ 1 → input_meant input.now ≡ None → ⊥ }
+    ensures status { result ≤ 4 }
+    ensures other { result ≢ 3 }
 {
     match look(alloc, state, input) {
         Ok(Look::NeedsSave) => 0,
@@ -148,9 +157,10 @@ pub extern "C" fn kt_row_text(
         × IsPut text out.old out.new len.new }
     ensures short { result ≡ 5 → (text : List ℕ) × IsRowText row.now clock process text
         × IsLeft text out.old out.new len.new }
-    ensures refused { result ≡ 2 → (text : List ℕ) → IsRowText row.now clock process text → ⊥ }
+    ensures refused { (result ≡ 2) ↔ (part_row_meant row.now clock process ≡ None) }
     ensures none { 2 ≤ result → result ≢ 5 → (out.new ≡ out.old) × (len.new ≡ 0) }
-    ensures status { result ≢ 1 }
+    ensures status { result ≤ 5 }
+    ensures other { (result ≢ 1) × (result ≢ 3) }
 {
     let row = match row_in(row, clock, process) {
         Some(row) => row,
@@ -205,6 +215,7 @@ fn refuse(why: &Refusal, output: &mut KtOutput) -> u32
     ensures status { result ≡ refusal_status why.now }
     ensures refused { 2 ≤ result }
     ensures few { result ≤ 4 }
+    ensures other { result ≢ 3 }
 {
     *output = KtOutput::of_refusal(why);
     why.status()

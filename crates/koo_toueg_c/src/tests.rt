@@ -117,6 +117,6 @@ fn merges(rt: HostRuntime) {
 fn tells_sizes(rt: HostRuntime) {
     let mut sizes = [0; 9];
     assert!(rt; kt_sizes(&mut sizes[..7]) == 8 && sizes[0] == 0);
-    assert!(rt; kt_sizes(&mut sizes) == 8 && sizes == [20, 24, 8, 56, 80, 64, 16, 3920, 0]);
-    assert!(rt; kt_version() == 2);
+    assert!(rt; kt_sizes(&mut sizes) == 8 && sizes == [20, 24, 8, 64, 88, 64, 16, 4432, 0]);
+    assert!(rt; kt_version() == 3);
 }

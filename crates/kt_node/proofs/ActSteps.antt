@@ -3,7 +3,6 @@ use Rattle.std.proofs.Common.{◌≡◌, ◌∙◌, ℕ, ◌≤◌, Bool, true, 
 use Rattle.std.specs.Prelude.{◌&&◌, if◌then◌else◌}
 use Rattle.kt_fifo.specs.declared.parcels.Parcel.{Parcel as SeenParcel}
 use Rattle.kt_meaning.specs.Past.{at_one}
-use Rattle.kt_protocol.proofs.Answering.{reply_facts}
 use Rattle.kt_protocol.proofs.Beginning.{decide_facts}
 use Rattle.kt_protocol.proofs.Replying.{ask_facts}
 use Rattle.kt_protocol.specs.Parcels.{Parcel, App, Ask, Reply, Decide}
@@ -21,15 +20,17 @@ use Rattle.kt_spacetime.specs.declared.names.InstName.{InstName}
 use Rattle.kt_node.specs.declared.parcels.NodeParcel.{NodeParcel}
 use Rattle.kt_node.specs.Nodes.{NodeState, nothing}
 use Rattle.kt_node.specs.NodeMessages.{taking_held}
+use Rattle.kt_node.specs.NodeJoining.{asking}
 use Rattle.kt_node.specs.Nets.{Net, has_some, front_acts, net_acts, net_run, opening_net}
 use Rattle.kt_node.specs.Erasing.{erased_parcels, name_in}
-use Rattle.kt_node.proofs.Done.{Shows, IsDone, done_nothing}
+use Rattle.kt_node.proofs.Done.{Shows, IsDone, done_nothing, done_heard}
 use Rattle.kt_node.proofs.Takings.{ready_test}
 use Rattle.kt_node.proofs.Acts.{acts_arriving, acts_begin, acts_fail, acts_send, acts_message, acts_ask, acts_reply, acts_decision}
-use Rattle.kt_node.proofs.Steps.{without_held}
-use Rattle.kt_node.proofs.Runs.{shown}
+use Rattle.kt_node.proofs.Owed.{IsDue}
+use Rattle.kt_node.proofs.Steps.{reply_due, decision_due, without_held}
+use Rattle.kt_node.proofs.Runs.{shown, due_run}
 
-module _ (n first : ℕ) (steps : List ProtocolStep) (name : ℕ → InstName) (count : ℕ → ℕ) (w : Net) (s : Shows name first count w (seen first (late_run (opening n) steps))) where
+module _ (n first : ℕ) (steps : List ProtocolStep) (name : ℕ → InstName) (count : ℕ → ℕ) (w : Net) (s : Shows name first count w (seen first (late_run (opening n) steps))) (due : IsDue (late_run (opening n) steps) w) where
   abbrev c : State
   c = late_run (opening n) steps
 
@@ -55,16 +56,15 @@ module _ (n first : ℕ) (steps : List ProtocolStep) (name : ℕ → InstName) (
   front p q able (App m ∷ rest) e = acts_message name first w p count (w.nodes p) v (begins p) (low p) q able (t.label m) (t.body m)
   front p q able (Ask k i ∷ rest) e =
       let f = ask_facts (once_closed c) q p k i rest e (known_run n steps).invariant in
-      acts_ask name first w p count (w.nodes p) v (begins p) (low p) q able k _ (t.label i) f.3
+      acts_ask name first w p count (asking (w.nodes p) q (name k)) v (done_heard name first w p count (w.nodes p) v (asking (w.nodes p) q (name k)).asks (w.nodes p).answered (begins p)) (low p) q able k _ (t.label i) f.3
   front p q able (Reply k b ∷ rest) e =
-      let g = (known_run n steps).invariant in
-      let f = reply_facts (once_closed c) q p k b rest e g in
-      acts_reply name first w p count (w.nodes p) v (begins p) (low p) q able k b (g.positions.joined_instance k p f.1).0 (g.positions.member_open k p f.1 f.2)
+      let f = reply_due n first steps name count w s due p q k b rest e in
+      acts_reply name first w p count (w.nodes p) v (begins p) (low p) q able k b f.0 f.1.0 f.1.1.0 f.1.1.1
   front p q able (Decide k b ∷ rest) e =
       let g = (known_run n steps).invariant in
       let f = decide_facts (once_closed c) q p k b rest e g in
       let pos = g.positions.decided_instance k f.0 in
-      acts_decision name first w p count (w.nodes p) v (begins p) (low p) q able k b pos.0 pos.1
+      acts_decision name first w p count (w.nodes p) v (begins p) (low p) q able k b pos.0 pos.1 (decision_due n first steps name count w s due p q k b rest e)
 
   -- a take by the lists that it is of
   abbrev taken : ℕ → ℕ → Bool → Bool → List NodeParcel → List NodeParcel → List Act
@@ -74,7 +74,7 @@ module _ (n first : ℕ) (steps : List ProtocolStep) (name : ℕ → InstName) (
   of_held : (p q : ℕ) (able : Bool) (x : List Parcel) → taken p q able false (erased_parcels name (parcels x)) (erased_parcels name (parcels (c.channel q p))) ≡ seen_acts_taking_held v p q able (parcels x)
   unfolding seen_parcels
   of_held p q able [] = front p q able (c.channel q p) refl
-  of_held p q able (App m ∷ rest) = acts_arriving name first w p count (record (w.nodes p) { held = at_one q (erased_parcels name (parcels rest)) (w.nodes p).held }) (record v { held = changes.with_rest v.held q p (parcels rest) }) (without_held n first steps name count w s p q rest) (low p) q (t.label m) (t.body m)
+  of_held p q able (App m ∷ rest) = acts_arriving name first w p count (record (w.nodes p) { held = at_one q (erased_parcels name (parcels rest)) (w.nodes p).held }) (record v { held = changes.with_rest v.held q p (parcels rest) }) (without_held n first steps name count w s due p q rest) (low p) q (t.label m) (t.body m)
   of_held p q able (Ask k i ∷ rest) = refl
   of_held p q able (Reply k b ∷ rest) = refl
   of_held p q able (Decide k b ∷ rest) = refl
@@ -96,4 +96,4 @@ module _ (n first : ℕ) (steps : List ProtocolStep) (name : ℕ → InstName) (
   acts_step (Take p q able) = take p q able
 
 pub acts_shown : (n first : ℕ) (steps : List ProtocolStep) (x : ProtocolStep) → net_acts (net_run (opening_net n first) steps) x ≡ seen_acts (seen first (late_run (opening n) steps)) x
-acts_shown n first steps x = let s = shown n first steps in acts_step n first steps (name_in (late_run (opening n) steps).log) s.0 (net_run (opening_net n first) steps) s.1 x
+acts_shown n first steps x = let s = shown n first steps in acts_step n first steps (name_in (late_run (opening n) steps).log) s.0 (net_run (opening_net n first) steps) s.1 (due_run n first steps) x

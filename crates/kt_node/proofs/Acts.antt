@@ -1,5 +1,5 @@
 -- The acts of a node's object are those of what is seen.
-use Rattle.std.proofs.Common.{◌≡◌, ◌∙◌, ℕ, ℤ, ◌≤◌, Bool, true, false, not, Option, Some, None, List, [], ◌∷◌, ◌++◌, refl, sym, ap, subst, arith}
+use Rattle.std.proofs.Common.{◌≡◌, ◌∙◌, ℕ, ℤ, ◌≤◌, Bool, true, false, not, Option, Some, None, List, [], ◌∷◌, ◌++◌, refl, sym, ap, arith}
 use Rattle.std.specs.Prelude.{◌==◌, ◌&&◌, if◌then◌else◌}
 use Rattle.std.proofs.lemmas.Bool.Decides.{nat_tests}
 use Rattle.std.proofs.lemmas.List.{append-nil}
@@ -19,10 +19,10 @@ use Rattle.kt_node.specs.Nodes as input
 use Rattle.kt_node.specs.NodeMessages.{arriving}
 use Rattle.kt_node.specs.NodeJoining.{next_name, beginning, joining_checkpoint, joining_rollback}
 use Rattle.kt_node.specs.NodeClosing.{ending, settling}
-use Rattle.kt_node.specs.NodeSteps.{is_in, starting, told_to_begin, asked_outside, asked, taking, is_step, node_after}
+use Rattle.kt_node.specs.NodeSteps.{is_in, starting, told_to_begin, asked_outside, asked, awaits, heeds, counting, taking, is_step, node_after}
 use Rattle.kt_node.specs.Nets.{Net}
 use Rattle.kt_node.proofs.Done.{IsDone}
-use Rattle.kt_node.proofs.Takings.{in_test, ready_test}
+use Rattle.kt_node.proofs.Takings.{heed_test, await_test, ready_test}
 
 -- either way
 pub acts_if : (b c : Bool) (d e : Doing) (x z : List Act) → b ≡ c → d.acts ≡ x → e.acts ≡ z → (if b then d else e).acts ≡ (if c then x else z)
@@ -118,21 +118,15 @@ module _ (name : ℕ → InstName) (first : ℕ) (w : Net) (p : ℕ) (count : �
       at_zero true e = outside q able (name k) roll label ∙ third ((v.states p).inst == k) ((v.states p).inst == 0) _ (other e) e
       at_zero false e = acts_none _ _ _ [] refl refl ∙ first_two ((v.states p).inst == k) ((v.states p).inst == 0) _ e
 
-  pub acts_reply : (q : ℕ) (able : Bool) (k : ℕ) (b : Bool) → 1 ≤ k → (v.states p).inst ≡ k → (taking y q able (put.Reply (name k) b)).acts ≡ seen_acts_replied v p b
-  acts_reply q able k b low o = swap (is_in y.inst (name k) && not (y.part.awaited == 0)) ((v.states p).part.awaited == 0) _ _ _ test
-      (acts_settling (name k) (nothing (record y { part = part_after_reply y.part b })) ∙ ap (λ (x : NodeState). seen_acts_settling (part_after_reply x.part b)) h.state) refl
+  pub acts_reply : (q : ℕ) (able : Bool) (k : ℕ) (b : Bool) → 1 ≤ k → (v.states p).inst ≡ k → (v.states p).part.asked q ≡ true → y.answered q ≡ false → (taking y q able (put.Reply (name k) b)).acts ≡ seen_acts_replied v p b
+  acts_reply q able k b low o asked fresh = swap (awaits y q (name k)) ((v.states p).part.awaited == 0) _ _ _ (await_test name first w p count y v h within q k low o asked fresh)
+      (acts_settling (name k) (nothing (counting y q b)) ∙ ap (λ (x : NodeState). seen_acts_settling (part_after_reply x.part b)) h.state) refl
     where
-      same_number : (n m : ℕ) → n ≡ m → (n == m) ≡ true
-      same_number n m e = grind (arith, nat_tests, e)
-
-      test : (is_in y.inst (name k) && not (y.part.awaited == 0)) ≡ not ((v.states p).part.awaited == 0)
-      test = ap (λ (x : Bool). x && not (y.part.awaited == 0)) (in_test name first w p count y v h within k low (subst (λ (x : ℕ). x ≤ v.begun) o within) ∙ same_number (v.states p).inst k o) ∙ ap (λ (x : NodeState). not (x.part.awaited == 0)) h.state
-
       swap : (a c : Bool) (d e : Doing) (x : List Act) → a ≡ not c → d.acts ≡ x → (e.acts ≡ []) → (if a then d else e).acts ≡ (if c then [] else x)
       swap true false d e x r f g = f
       swap false true d e x r f g = g
       swap true true d e x r f g = absurd (cc)
       swap false false d e x r f g = absurd (cc)
 
-  pub acts_decision : (q : ℕ) (able : Bool) (k : ℕ) (c : Bool) → 1 ≤ k → k ≤ v.begun → (taking y q able (put.Decide (name k) c)).acts ≡ seen_acts_decided v p k c
-  acts_decision q able k c low high = acts_if (is_in y.inst (name k)) ((v.states p).inst == k) _ _ _ _ (in_test name first w p count y v h within k low high) (ap (λ (x : NodeState). acts_of_closing x.part.is_rollback c) h.state) refl
+  pub acts_decision : (q : ℕ) (able : Bool) (k : ℕ) (c : Bool) → 1 ≤ k → k ≤ v.begun → is_in (y.asks q) (name k) ≡ true → (taking y q able (put.Decide (name k) c)).acts ≡ seen_acts_decided v p k c
+  acts_decision q able k c low high a = acts_if (heeds y q (name k)) ((v.states p).inst == k) _ _ _ _ (heed_test name first w p count y v h within q k low high a) (ap (λ (x : NodeState). acts_of_closing x.part.is_rollback c) h.state) refl

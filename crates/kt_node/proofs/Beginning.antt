@@ -29,26 +29,26 @@ use Rattle.kt_node.specs.Erasing.{erased_parcel}
 use Rattle.kt_node.specs.Nodes.{NodeLists, NodeState, Doing}
 use Rattle.kt_node.specs.NodeClosing.{settling}
 use Rattle.kt_node.specs.NodeMessages.{refusing, unable}
-use Rattle.kt_node.specs.NodeJoining.{next_name}
+use Rattle.kt_node.specs.NodeJoining.{next_name, asking}
 use Rattle.kt_node.specs.NodeSteps.{starting, told_to_begin}
 use Rattle.kt_node.specs.Managers.{ManagerState, HoldsFor, ShowsNode, no_name, number_for, process_of}
-use Rattle.kt_node.specs.Turns.{able_in, marks_in, named_cause, joined_in}
+use Rattle.kt_node.specs.Turns.{HearsIn, able_in, marks_in, named_cause, joined_in}
 
 -- a node that has joined k
 abbrev pub joined_node : Kind → InstName → Option ℕ → (ℕ → Option ℕ) → NodeState → NodeState
 joined_node Checkpoint k parent noted y =
-    record y { calls = y.calls ++ on_tentative ∷ []; inst = Some k; part = new_part y.processes false parent (is_asked_in_checkpoint y.calls) no_note (λ q. length (y.kept q)) }
-joined_node Rollback k parent noted y = record y { inst = Some k; part = new_part y.processes true parent (is_asked_in_rollback y.calls) noted (λ q. 0) }
+    record y { calls = y.calls ++ on_tentative ∷ []; inst = Some k; part = new_part y.processes false parent (is_asked_in_checkpoint y.calls) no_note (λ q. length (y.kept q)); answered = λ q. false }
+joined_node Rollback k parent noted y = record y { inst = Some k; part = new_part y.processes true parent (is_asked_in_rollback y.calls) noted (λ q. 0); answered = λ q. false }
 
 -- what holds of each node whose process has joined so, and goes on, holds of this one
 pub go_joined : (kind : Kind) (k : InstName) (parent : Option ℕ) (noted : ℕ → Option ℕ) (z : NodeState) (w : ManagerState) (asks : List (ℕ × ℕ)) (goes : Then) (rows : List NamedEvent) (P : Doing → Type 0)
-    → ((y : NodeState) (label : ℕ → ℕ) → HoldsFor w y → IsSeenAs w.process (process_of y) → y.inst ≡ Some k → IsCohort asks y.part.asked label → goes ≡ goes_on y.part → y.part.willing ≡ true → P (settling k (joined_in k kind label rows y)))
+    → ((y : NodeState) (label : ℕ → ℕ) → HoldsFor w y → IsSeenAs w.process (process_of y) → y.inst ≡ Some k → IsCohort asks y.part.asked label → goes ≡ goes_on y.part → y.part.willing ≡ true → ((q : ℕ) → y.answered q ≡ false) → P (settling k (joined_in k kind label rows y)))
     → HoldsFor w z → IsProcessJoined kind z.processes 1 parent (marks_in kind z) noted (process_of z) w.process asks goes
     → P (settling k (joined_in k kind (label_by kind z.calls) rows (joined_node kind k parent noted z)))
 go_joined Checkpoint k parent noted z w asks goes rows P f h j =
-    f (joined_node Checkpoint k parent noted z) (label_by Checkpoint z.calls) (record { processes = h.processes; me = h.me; begun = h.begun; held = h.held; kept = h.kept }) j.process refl j.cohort j.way refl
+    f (joined_node Checkpoint k parent noted z) (label_by Checkpoint z.calls) (record { processes = h.processes; me = h.me; begun = h.begun; held = h.held; kept = h.kept; asks = h.asks }) j.process refl j.cohort j.way refl (λ q. refl)
 go_joined Rollback k parent noted z w asks goes rows P f h j =
-    f (joined_node Rollback k parent noted z) (label_by Rollback z.calls) (record { processes = h.processes; me = h.me; begun = h.begun; held = h.held; kept = h.kept }) j.process refl j.cohort j.way refl
+    f (joined_node Rollback k parent noted z) (label_by Rollback z.calls) (record { processes = h.processes; me = h.me; begun = h.begun; held = h.held; kept = h.kept; asks = h.asks }) j.process refl j.cohort j.way refl (λ q. refl)
 
 -- it makes no difference how many it began
 pub joined_begun : (kind : Kind) (y : NodeState) (n : ℕ) (x : ProcessState) (asks : List (ℕ × ℕ)) (goes : Then) → IsProcessJoined kind y.processes 1 None (marks_in kind y) no_note (process_of y) x asks goes
@@ -110,3 +110,8 @@ hears_save w able q inst label k marks y x action h t i m s =
     subst (λ (n : ℕ). HearsAs Checkpoint able n q (number_for y.inst k) label (λ u. length (y.kept u)) (process_of y) x action) (t ∙ h.holds.processes)
     (subst (λ (n : ℕ). HearsAs Checkpoint able w.process.tables.processes q n label (λ u. length (y.kept u)) (process_of y) x action) (i ∙ ap (λ (o : Option InstName). number_for o k) h.inst)
     (subst (λ (l : ℕ → ℕ). HearsAs Checkpoint able w.process.tables.processes q inst label l (process_of y) x action) m s))
+
+-- what was asked last makes no difference to what is heard
+pub hears_asked : (kind : Kind) (able : Bool) (q : ℕ) (k : InstName) (label : ℕ) (y : NodeState) (x : ProcessState) (action : Action) → HearsIn kind able q k label y x action → HearsIn kind able q k label (asking y q k) x action
+hears_asked Checkpoint able q k label y x action h = h
+hears_asked Rollback able q k label y x action h = h

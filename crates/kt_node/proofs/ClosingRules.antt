@@ -61,7 +61,7 @@ module _ (name : ℕ → InstName) (first : ℕ) (w : Net) (p : ℕ) (count : �
   -- what a node does that closes, where it is what is seen
   abbrev closed : Doing → Seen → ℕ → Bool → Bool → Doing
   closed d v k roll c = record {
-    state = if roll then after_rollback c (node_of name first count v p) else after_checkpoint c (node_of name first count v p);
+    state = if roll then after_rollback c (node_of name first count v p d.state) else after_checkpoint c (node_of name first count v p d.state);
     puts = putting (v.states p).part.asked (λ q. put.Decide (name k) c) d.puts;
     rows = d.rows ++ own.Closed (name k) ∷ [];
     acts = d.acts ++ acts_of_closing roll c;
@@ -73,13 +73,13 @@ module _ (name : ℕ → InstName) (first : ℕ) (w : Net) (p : ℕ) (count : �
 
     closes_checkpoint : (c : Bool) → IsDone name first w p count (closed d v k false c) (seen_closing_checkpoint v p k c)
     closes_checkpoint c = done_as name first w p count d (closed d v k false c) v (record (v.states p) { calls = (v.states p).calls ++ call_of_decision c ∷ []; inst = 0; part = no_part }) _ v.held _ _ h
-        (λ i. record (after_checkpoint c (node_of name first count v p)) { kept = λ q. trims_own name c p (v.states p).part.marks v.kept q i })
+        (λ i. record (after_checkpoint c (node_of name first count v p d.state)) { kept = λ q. trims_own name c p (v.states p).part.marks v.kept q i })
         (λ q u n. refl) (λ q u n. trims_other c p (v.states p).part.marks v.kept q u n)
         (decided_own v.channel d k c (v.states p).part.asked h.puts) (decided_other v.channel k c (v.states p).part.asked) row_closed
 
     closes_rollback : (c : Bool) → IsDone name first w p count (closed d v k true c) (seen_closing_rollback v p k c)
     closes_rollback true = done_as name first w p count d (closed d v k true true) v (record (v.states p) { calls = (v.states p).calls ++ on_rollback ∷ []; inst = 0; part = no_part; up = true }) _ _ _ _ h
-        (λ i. record (after_rollback true (node_of name first count v p)) { held = λ q. put_back_own name p (v.states p).part.noted v.kept v.held q i; kept = λ q. emptied_own name p v.kept q i })
+        (λ i. record (after_rollback true (node_of name first count v p d.state)) { held = λ q. put_back_own name p (v.states p).part.noted v.kept v.held q i; kept = λ q. emptied_own name p v.kept q i })
         (λ q u n. test_other p u _ (v.held q u) n) (λ q u n. test_other p u [] (v.kept q u) n)
         (decided_own v.channel d k true (v.states p).part.asked h.puts) (decided_other v.channel k true (v.states p).part.asked) row_closed
     closes_rollback false = done_as name first w p count d (closed d v k true false) v (record (v.states p) { inst = 0; part = no_part }) _ v.held v.kept _ h refl
@@ -102,14 +102,14 @@ module _ (name : ℕ → InstName) (first : ℕ) (w : Net) (p : ℕ) (count : �
         (puts_one name first w p count v.channel d.puts to (in_code.Reply k b) h.puts) (puts_other name first w p count v.channel to (in_code.Reply k b)) h.told
 
   -- p answers its parent, or decides and closes
-  done_ending : (d : Doing) (v : Seen) (k : ℕ) → 1 ≤ k → k ≤ v.begun → IsDone name first w p count d v → (parent : Option ℕ) → IsDone name first w p count (ending (name k) parent (record d { state = node_of name first count v p })) (seen_ending v p k parent)
-  done_ending d v k low high h (Some to) = done_answering (record d { state = node_of name first count v p }) v k low high (record { state = refl; others = h.others; puts = h.puts; channels = h.channels; told = h.told }) to (v.states p).part.willing
-  done_ending d v k low high h None = done_closing (record d { state = node_of name first count v p; rows = d.rows ++ own.Decided (name k) (v.states p).part.willing ∷ [] }) (seen_deciding v p k (v.states p).part.willing) k low high
-      (done_deciding (record d { state = node_of name first count v p }) v k low high (record { state = refl; others = h.others; puts = h.puts; channels = h.channels; told = h.told }) (v.states p).part.willing) (v.states p).part.willing
+  done_ending : (d : Doing) (v : Seen) (k : ℕ) → 1 ≤ k → k ≤ v.begun → IsDone name first w p count d v → (parent : Option ℕ) → IsDone name first w p count (ending (name k) parent (record d { state = node_of name first count v p d.state })) (seen_ending v p k parent)
+  done_ending d v k low high h (Some to) = done_answering (record d { state = node_of name first count v p d.state }) v k low high (record { state = refl; others = h.others; puts = h.puts; channels = h.channels; told = h.told }) to (v.states p).part.willing
+  done_ending d v k low high h None = done_closing (record d { state = node_of name first count v p d.state; rows = d.rows ++ own.Decided (name k) (v.states p).part.willing ∷ [] }) (seen_deciding v p k (v.states p).part.willing) k low high
+      (done_deciding (record d { state = node_of name first count v p d.state }) v k low high (record { state = refl; others = h.others; puts = h.puts; channels = h.channels; told = h.told }) (v.states p).part.willing) (v.states p).part.willing
 
   pub done_settling : (d : Doing) (v : Seen) (k : ℕ) → 1 ≤ k → k ≤ v.begun → IsDone name first w p count d v → IsDone name first w p count (settling (name k) d) (seen_settling v p k)
   done_settling d v k low high h = subst (λ (x : NodeState). IsDone name first w p count (settling (name k) (record d { state = x })) (seen_settling v p k)) (sym h.state) (at_zero ((v.states p).part.awaited == 0))
     where
-      at_zero : (b : Bool) → IsDone name first w p count (if b then ending (name k) (v.states p).part.parent (record d { state = node_of name first count v p }) else record d { state = node_of name first count v p }) (if b then seen_ending v p k (v.states p).part.parent else v)
+      at_zero : (b : Bool) → IsDone name first w p count (if b then ending (name k) (v.states p).part.parent (record d { state = node_of name first count v p d.state }) else record d { state = node_of name first count v p d.state }) (if b then seen_ending v p k (v.states p).part.parent else v)
       at_zero true = done_ending d v k low high h (v.states p).part.parent
       at_zero false = record { state = refl; others = h.others; puts = h.puts; channels = h.channels; told = h.told }

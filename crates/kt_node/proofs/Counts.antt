@@ -43,10 +43,11 @@ set_within xs i v c b l h q = elim (cases_eq q i) [
 
 -- a step: its manager did this, its parcels were counted, and its messages followed
 pub step_of : (old new : NodeLinks) (m : ManagerState) (before : List ℕ) (came clock : ℕ) (y : NodeState) (x : Input) (e : Effects) (out : Output) → IsDone m e (node_after y x) → clock ≡ max old.clock came + 1 → new.manager ≡ m → new.clock ≡ clock → before ≡ old.sent
-    → ((q : ℕ) → q < 64 → slice_index new.sent q ≡ slice_index before q + length (put_to e.parcels q)) → out.effects ≡ e → out.clock ≡ clock → out.numbers ≡ new.sent
+    → ((q : ℕ) → q < 64 → slice_index new.sent q ≡ slice_index before q + length (put_to e.parcels q)) → out.effects ≡ e → out.from ≡ new.manager.me → out.clock ≡ clock → out.numbers ≡ new.sent
     → (HasReaches old.reaches y.calls → HasReaches new.reaches (y.calls ++ calls_of e)) → IsStep old new came y x out
-step_of old new m before came clock y x e out done ticks manager is same sent effects told numbers reaches = record {
+step_of old new m before came clock y x e out done ticks manager is same sent effects sender told numbers reaches = record {
   done = subst (λ (w : ManagerState). IsDone w out.effects (node_after y x)) (sym manager) (subst (λ (z : Effects). IsDone m z (node_after y x)) (sym effects) done);
+  sender = sender;
   clock = is ∙ ticks;
   told = told ∙ sym is;
   sent = λ q b. sent q b ∙ ap₂ (λ (x y : ℕ). x + y) (ap (λ (l : List ℕ). slice_index l q) same) (ap length (done.puts q));

@@ -5,7 +5,7 @@ use Rattle.kt_base.specs.declared.words.Cause.{Cause}
 use Rattle.kt_base.specs.declared.words.Cause.TheVariants as cause
 use Rattle.kt_base.specs.declared.words.Kind.{Kind}
 use Rattle.kt_base.specs.declared.words.Kind.TheVariants.{Checkpoint, Rollback}
-use Rattle.kt_meaning.specs.Past.{at_one}
+use Rattle.kt_meaning.specs.Past.{at_one, is_rollback_kind}
 use Rattle.kt_protocol.specs.Replies.{unable_cause}
 use Rattle.kt_process.specs.Answers.{replies, joins}
 use Rattle.kt_machine.specs.CallTests.{must_take, must_roll}
@@ -21,8 +21,8 @@ use Rattle.kt_node.specs.Nodes.{NodeState, Doing, nothing}
 use Rattle.kt_node.specs.NodeClosing.{settling}
 use Rattle.kt_node.specs.NodeMessages.{unable}
 use Rattle.kt_node.specs.NodeJoining.{joining_checkpoint, joining_rollback, replying, unwilling, noting}
-use Rattle.kt_node.specs.NodeSteps.{is_one, taking}
-use Rattle.kt_node.specs.Managers.{ManagerState, HoldsFor, ShowsNode, number_for, process_of}
+use Rattle.kt_node.specs.NodeSteps.{is_one, asked}
+use Rattle.kt_node.specs.Managers.{ManagerState, HoldsFor, HasAnswered, ShowsNode, number_for, process_of}
 use Rattle.kt_node.specs.declared.effects.Effects.{Effects}
 use Rattle.kt_node.specs.declared.effects.Parcels.TheVariants as puts
 use Rattle.kt_node.specs.Effects.{IsDone, rows_told}
@@ -41,7 +41,7 @@ same_reply q k o z b willing c why e =
 
 pub hears_reply : (y : NodeState) (o : Option InstName) (kind : Kind) (q : ℕ) (k : InstName) (label : ℕ) (able willing : Bool) (why : Option Cause)
     → answer_as kind (able_in kind able) q (number_for o k) label (process_of (record y { inst = o })) ≡ replies willing why
-    → replied q k willing o why (heard_in kind q k label (record y { inst = o })) ≡ taking (record y { inst = o }) q able (put.Ask k kind label)
+    → replied q k willing o why (heard_in kind q k label (record y { inst = o })) ≡ asked o (record y { inst = o }) q able k (is_rollback_kind (Some kind)) label
 hears_reply y None Checkpoint q k label able willing why e = at_tests (must_take y.calls q label) (able && y.up) y.up e
   where
     at_tests : (m u p : Bool) → (if not m then replies true None else if not u then replies false (Some (unable_cause p)) else joins) ≡ replies willing why
@@ -76,7 +76,7 @@ hears_reply y (Some name) Rollback q k label able willing why e = at_test (is_on
 -- it joins: it was in none
 pub hears_join : (y : NodeState) (o : Option InstName) (kind : Kind) (q : ℕ) (k : InstName) (label : ℕ) (able : Bool)
     → answer_as kind (able_in kind able) q (number_for o k) label (process_of (record y { inst = o })) ≡ joins
-    → (o ≡ None) × (settling k (joined_in k kind (label_by kind y.calls) [] (joined_node kind k (Some q) (at_one q (Some label) no_note) (record y { inst = o }))) ≡ taking (record y { inst = o }) q able (put.Ask k kind label))
+    → (o ≡ None) × (settling k (joined_in k kind (label_by kind y.calls) [] (joined_node kind k (Some q) (at_one q (Some label) no_note) (record y { inst = o }))) ≡ asked o (record y { inst = o }) q able k (is_rollback_kind (Some kind)) label)
 hears_join y None Checkpoint q k label able e = (refl, at_tests (must_take y.calls q label) (able && y.up) e)
   where
     at_tests : (m u : Bool) → (if not m then replies true None else if not u then replies false (Some (unable_cause y.up)) else joins) ≡ joins
@@ -113,30 +113,30 @@ noted_is y (Some name) Rollback q k label = at_test (is_one name k)
     at_test true = refl
     at_test false = refl
 
-pub shows_heard : (w : ManagerState) (y : NodeState) (o : Option InstName) (kind : Kind) (q : ℕ) (k : InstName) (label : ℕ) → HoldsFor w y → w.inst ≡ o → IsSeenAs w.process (process_of (heard_in kind q k label (record y { inst = o })))
+pub shows_heard : (w : ManagerState) (y : NodeState) (o : Option InstName) (kind : Kind) (q : ℕ) (k : InstName) (label : ℕ) → HoldsFor w y → w.inst ≡ o → HasAnswered w y → IsSeenAs w.process (process_of (heard_in kind q k label (record y { inst = o })))
     → ShowsNode w (heard_in kind q k label (record y { inst = o }))
-shows_heard w y o Checkpoint q k label h i s = record { holds = record { processes = h.processes; me = h.me; begun = h.begun; held = h.held; kept = h.kept }; process = s; inst = i }
-shows_heard w y None Rollback q k label h i s = record { holds = record { processes = h.processes; me = h.me; begun = h.begun; held = h.held; kept = h.kept }; process = s; inst = i }
-shows_heard w y (Some name) Rollback q k label h i s = at_test (is_one name k) s
+shows_heard w y o Checkpoint q k label h i a s = record { holds = record { processes = h.processes; me = h.me; begun = h.begun; held = h.held; kept = h.kept; asks = h.asks }; process = s; inst = i; answered = a }
+shows_heard w y None Rollback q k label h i a s = record { holds = record { processes = h.processes; me = h.me; begun = h.begun; held = h.held; kept = h.kept; asks = h.asks }; process = s; inst = i; answered = a }
+shows_heard w y (Some name) Rollback q k label h i a s = at_test (is_one name k) s
   where
     at_test : (b : Bool) → IsSeenAs w.process (process_of (if b then record y { inst = Some name; part = part_after_ask y.part q label } else record y { inst = Some name }))
         → ShowsNode w (if b then record y { inst = Some name; part = part_after_ask y.part q label } else record y { inst = Some name })
-    at_test true s = record { holds = record { processes = h.processes; me = h.me; begun = h.begun; held = h.held; kept = h.kept }; process = s; inst = i }
-    at_test false s = record { holds = record { processes = h.processes; me = h.me; begun = h.begun; held = h.held; kept = h.kept }; process = s; inst = i }
+    at_test true s = record { holds = record { processes = h.processes; me = h.me; begun = h.begun; held = h.held; kept = h.kept; asks = h.asks }; process = s; inst = i; answered = a }
+    at_test false s = record { holds = record { processes = h.processes; me = h.me; begun = h.begun; held = h.held; kept = h.kept; asks = h.asks }; process = s; inst = i; answered = a }
 
 rows_one : (o : Option NamedEvent) → rows_told (o ∷ None ∷ None ∷ None ∷ []) ≡ rows_told (o ∷ [])
 rows_one None = refl
 rows_one (Some row) = refl
 
 -- it replies
-pub done_reply : (w : ManagerState) (y : NodeState) (kind : Kind) (q : ℕ) (k : InstName) (label : ℕ) (able willing : Bool) (why : Option Cause) (row : Option NamedEvent) → HoldsFor w y → w.inst ≡ y.inst → row ≡ unwilling_row k y.inst why
+pub done_reply : (w : ManagerState) (y : NodeState) (kind : Kind) (q : ℕ) (k : InstName) (label : ℕ) (able willing : Bool) (why : Option Cause) (row : Option NamedEvent) → HoldsFor w y → w.inst ≡ y.inst → HasAnswered w y → row ≡ unwilling_row k y.inst why
     → answer_as kind (able_in kind able) q (number_for y.inst k) label (process_of y) ≡ replies willing why → IsSeenAs w.process (noted_as kind q (number_for y.inst k) label (process_of y))
-    → IsDone w (record { rows = row ∷ None ∷ None ∷ None ∷ []; acts = answered.Nothing ∷ answered.Nothing ∷ []; parcels = puts.One q (put.Reply k willing) }) (taking y q able (put.Ask k kind label))
-done_reply w y kind q k label able willing why row h i r a s =
+    → IsDone w (record { rows = row ∷ None ∷ None ∷ None ∷ []; acts = answered.Nothing ∷ answered.Nothing ∷ []; parcels = puts.One q (put.Reply k willing) }) (asked y.inst y q able k (is_rollback_kind (Some kind)) label)
+done_reply w y kind q k label able willing why row h i n r a s =
     let effects : Effects = record { rows = row ∷ None ∷ None ∷ None ∷ []; acts = answered.Nothing ∷ answered.Nothing ∷ []; parcels = puts.One q (put.Reply k willing) } in
     subst (λ (d : Doing). IsDone w effects d) (hears_reply y y.inst kind q k label able willing why a)
     (record {
-      state = shows_heard w y y.inst kind q k label h i (subst (λ (z : SeenProcess). IsSeenAs w.process z) (noted_is y y.inst kind q k label) s);
+      state = shows_heard w y y.inst kind q k label h i n (subst (λ (z : SeenProcess). IsSeenAs w.process z) (noted_is y y.inst kind q k label) s);
       puts = λ u. refl;
       rows = ap (λ (o : Option NamedEvent). rows_told (o ∷ None ∷ None ∷ None ∷ [])) r ∙ rows_one (unwilling_row k y.inst why);
       acts = refl;

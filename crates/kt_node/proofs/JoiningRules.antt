@@ -40,7 +40,7 @@ module _ (name : ℕ → InstName) (first : ℕ) (w : Net) (p : ℕ) (count : �
   pub done_part : (y : NodeState) (v : Seen) (part : SeenPart) → IsDone name first w p count (nothing y) v
       → IsDone name first w p count (nothing (record y { part = part })) (record v { states = at_one p (record (v.states p) { part = part }) v.states })
   done_part y v part h = subst (λ (x : NodeState). IsDone name first w p count (nothing (record x { part = part })) (record v { states = at_one p (record (v.states p) { part = part }) v.states })) (sym h.state)
-      (done_as name first w p count (nothing y) (nothing (record (node_of name first count v p) { part = part })) v (record (v.states p) { part = part }) v.channel v.held v.kept v.log h refl (λ q u n. refl) (λ q u n. refl) h.puts (λ u t n. refl) h.told)
+      (done_as name first w p count (nothing y) (nothing (record (node_of name first count v p y) { part = part })) v (record (v.states p) { part = part }) v.channel v.held v.kept v.log h refl (λ q u n. refl) (λ q u n. refl) h.puts (λ u t n. refl) h.told)
 
   pub done_noting : (y : NodeState) (v : Seen) (roll : Bool) (q label : ℕ) → IsDone name first w p count (nothing y) v → IsDone name first w p count (nothing (noting y roll q label)) (seen_member_ask v roll p q label)
   done_noting y v roll q label h =
@@ -59,11 +59,12 @@ module _ (name : ℕ → InstName) (first : ℕ) (w : Net) (p : ℕ) (count : �
       → IsDone name first w p count (joining_checkpoint (name k) parent d) (seen_joining_checkpoint v v.channel p k parent)
   done_joining_checkpoint d v k parent low high h =
       subst (λ (x : NodeState). IsDone name first w p count (joining_checkpoint (name k) parent (record d { state = x })) (seen_joining_checkpoint v v.channel p k parent)) (sym h.state)
-      (done_as name first w p count d (joining_checkpoint (name k) parent (record d { state = node_of name first count v p })) v _ _ v.held v.kept _ h
-      (λ i. record (node_of name first count v p) {
+      (done_as name first w p count d (joining_checkpoint (name k) parent (record d { state = node_of name first count v p d.state })) v _ _ v.held v.kept _ h
+      (λ i. record (node_of name first count v p d.state) {
         calls = (v.states p).calls ++ on_tentative ∷ [];
         inst = inst_some name k low i;
         part = new_part v.processes false parent (is_asked_in_checkpoint (v.states p).calls) no_note (λ q. length-map (v.kept q p) (erased_parcel name) i);
+        answered = λ q. false;
       })
       (λ q u n. refl) (λ q u n. refl)
       (asks_own v.channel d k Checkpoint (is_asked_in_checkpoint (v.states p).calls) (checkpoint_label (v.states p).calls) h.puts)
@@ -74,10 +75,11 @@ module _ (name : ℕ → InstName) (first : ℕ) (w : Net) (p : ℕ) (count : �
       → IsDone name first w p count (joining_rollback (name k) parent noted d) (seen_joining_rollback v v.channel p k parent noted)
   done_joining_rollback d v k parent noted low high h =
       subst (λ (x : NodeState). IsDone name first w p count (joining_rollback (name k) parent noted (record d { state = x })) (seen_joining_rollback v v.channel p k parent noted)) (sym h.state)
-      (done_as name first w p count d (joining_rollback (name k) parent noted (record d { state = node_of name first count v p })) v _ _ v.held v.kept _ h
-      (λ i. record (node_of name first count v p) {
+      (done_as name first w p count d (joining_rollback (name k) parent noted (record d { state = node_of name first count v p d.state })) v _ _ v.held v.kept _ h
+      (λ i. record (node_of name first count v p d.state) {
         inst = inst_some name k low i;
         part = new_part v.processes true parent (is_asked_in_rollback (v.states p).calls) noted (λ q. 0);
+        answered = λ q. false;
       })
       (λ q u n. refl) (λ q u n. refl)
       (asks_own v.channel d k Rollback (is_asked_in_rollback (v.states p).calls) (rollback_label (v.states p).calls) h.puts)
@@ -89,8 +91,8 @@ module _ (name : ℕ → InstName) (first : ℕ) (w : Net) (p : ℕ) (count : �
       → (IsDone name first w p (at_one p (count p + 1) count) (beginning y roll) (seen_began v p roll)) × (next_name y ≡ name (v.begun + 1))
   done_beginning y v roll n h = (
     record {
-      state = ap (λ (x : NodeState). record x { begun = x.begun + 1 }) h.state ∙ (λ i. record (node_of name first count v p) { begun = sym (at_one_here p (count p + 1) count) i });
-      others = λ u o. h.others u o ∙ (λ i. record (node_of name first count v u) { begun = sym (at_one_other p u (count p + 1) count o) i });
+      state = ap (λ (x : NodeState). record x { begun = x.begun + 1 }) h.state ∙ (λ i. record (node_of name first count v p y) { begun = sym (at_one_here p (count p + 1) count) i });
+      others = λ u o. h.others u o ∙ (λ i. record (node_of name first count v u (w.nodes u)) { begun = sym (at_one_other p u (count p + 1) count o) i });
       puts = h.puts;
       channels = h.channels;
       told = rows_one name first w p (at_one p (count p + 1) count) [] (own.Began (next_name y) (kind_for roll)) _ _

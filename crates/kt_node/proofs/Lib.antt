@@ -8,8 +8,14 @@ pub mod JoiningRules
 pub mod ClosingRules
 pub mod Commands
 pub mod Takings
+pub mod Awaiting
+pub mod Owing
+pub mod Owed
 pub mod Steps
+pub mod Dues
 pub mod Runs
+pub mod Begun
+pub mod Forged
 pub mod Acts
 pub mod ActSteps
 pub mod NetInputs
@@ -17,6 +23,9 @@ pub mod BothOrders
 pub mod Swaps
 pub mod Sorting
 pub mod Unclocked
+pub mod ClockedActs
+pub mod NumberedNets
+pub mod NumberedCalls
 pub mod Merged
 pub mod NodeKeeps
 pub mod NodeCalls
@@ -30,9 +39,12 @@ pub mod Hearing
 pub mod Replying
 pub mod Messages
 pub mod Counts
+pub mod Speaking
+pub mod Meets
 pub mod Reaching
 pub mod Looking
 mod NetMerges
 pub mod OnWay
 pub mod Clustering
 pub mod Turning
+pub mod OwnMarks

@@ -1,11 +1,12 @@
 -- The lists to a manager, once one of them has changed.
-use Rattle.std.proofs.Common.{◌≡◌, ◌∙◌, ℕ, ◌+◌, Bool, true, false, Option, List, [], ◌∷◌, ◌++◌, drop, refl, sym, ap, ap₂, subst, inl, inr}
-use Rattle.std.specs.Prelude.{if◌then◌else◌}
+use Rattle.std.proofs.Common.{◌≡◌, ◌∙◌, ℕ, zero, suc, ◌+◌, Bool, true, false, Option, List, [], ◌∷◌, ◌++◌, drop, refl, sym, ap, ap₂, subst, inl, inr}
+use Rattle.std.specs.Prelude.{◌<◌, if◌then◌else◌, Some, None, length, replicate, slice_index_or, slice_set}
+use Rattle.kt_base.specs.Sets.{has}
 use Rattle.std.proofs.Math.Path.{fun_ext}
 use Rattle.std.proofs.lemmas.Bool.{cases_eq}
-use Rattle.std.proofs.lemmas.List.{map-append, drop-map}
+use Rattle.std.proofs.lemmas.List.{map-append, drop-map, get_or-set_same, get_or-set_other}
 use Rattle.kt_meaning.specs.Past.{at_one}
-use Rattle.kt_protocol.proofs.Updates.{is_same, is_other}
+use Rattle.kt_protocol.proofs.Updates.{is_same, is_other, at_one_here, at_one_other}
 use Rattle.kt_fifo.specs.declared.parcels.Parcel.{Parcel}
 use Rattle.kt_fifo.specs.Channels.{ChannelLists, channel, at_pair}
 use Rattle.kt_machine.specs.Seen.{SeenLists}
@@ -16,6 +17,7 @@ use Rattle.kt_process.specs.Shown.{IsSeenAs}
 use Rattle.kt_spacetime.specs.declared.names.InstName.{InstName}
 use Rattle.kt_node.specs.declared.parcels.NodeParcel.{NodeParcel}
 use Rattle.kt_node.specs.Nodes.{NodeLists, NodeState, with_one}
+use Rattle.kt_node.specs.NodeJoining.{asking}
 use Rattle.kt_node.specs.NodeClosing.{forgets, within, after_checkpoint, after_rollback}
 use Rattle.kt_node.specs.Erasing.{erased_parcel, erased_parcels}
 use Rattle.kt_node.proofs.Columns.{within_is}
@@ -57,15 +59,34 @@ pub same_column : (f g : SeenLists) (p : ℕ) → g ≡ f → column g p ≡ col
 same_column f g p e = ap (λ (h : SeenLists). column h p) e
 
 -- another process and instance
-pub holds_as : (w : ManagerState) (x : ProcessState) (o : Option InstName) (y : NodeState) → HoldsFor w y → HoldsFor (record w { process = x; inst = o }) y
-holds_as w x o y h = record { processes = h.processes; me = h.me; begun = h.begun; held = h.held; kept = h.kept }
+pub holds_as : (w : ManagerState) (x : ProcessState) (o : Option InstName) (answered : ℕ) (y : NodeState) → HoldsFor w y → HoldsFor (record w { process = x; inst = o; answered = answered }) y
+holds_as w x o answered y h = record { processes = h.processes; me = h.me; begun = h.begun; held = h.held; kept = h.kept; asks = h.asks }
 
-pub shows_in : (w : ManagerState) (x : ProcessState) (o : Option InstName) (y : NodeState) → HoldsFor w y → IsSeenAs x (process_of y) → o ≡ y.inst → ShowsNode (record w { process = x; inst = o }) y
-shows_in w x o y h s e = record { holds = holds_as w x o y h; process = s; inst = e }
+pub shows_in : (w : ManagerState) (x : ProcessState) (o : Option InstName) (answered : ℕ) (y : NodeState) → HoldsFor w y → IsSeenAs x (process_of y) → o ≡ y.inst → ((q : ℕ) → has answered q ≡ y.answered q) → ShowsNode (record w { process = x; inst = o; answered = answered }) y
+shows_in w x o answered y h s e a = record { holds = holds_as w x o answered y h; process = s; inst = e; answered = a }
+
+-- it was asked by q last to join k
+at_ask : (l : List (Option InstName)) (q : ℕ) (k : InstName) (asks : ℕ → Option InstName) → q < length l → ((u : ℕ) → slice_index_or l u None ≡ asks u) → (u : ℕ) → slice_index_or (slice_set l q (Some k)) u None ≡ at_one q (Some k) asks u
+at_ask l q k asks b h u = elim (cases_eq u q) [
+  | inl e ↦ subst (λ (u : ℕ). slice_index_or (slice_set l q (Some k)) u None ≡ at_one q (Some k) asks u) (sym e) (get_or-set_same l q (Some k) None b ∙ sym (at_one_here q (Some k) asks))
+  | inr n ↦ get_or-set_other l q u (Some k) None n ∙ (h u ∙ sym (at_one_other q u (Some k) asks n))
+]
+
+pub holds_asked : (w : ManagerState) (y : NodeState) (q i : ℕ) (k : InstName) → i ≡ q → i < length w.asks → HoldsFor w y → HoldsFor (record w { asks = slice_set w.asks i (Some k) }) (asking y q k)
+holds_asked w y q i k e b h = record { processes = h.processes; me = h.me; begun = h.begun; held = h.held; kept = h.kept; asks = λ u. at_ask w.asks i k y.asks b h.asks u ∙ ap (λ (n : ℕ). at_one n (Some k) y.asks u) e }
+
+-- nobody has asked
+abbrev no_ask : Option InstName
+no_ask = None
+
+pub none_each : (n q : ℕ) → slice_index_or (replicate n no_ask) q None ≡ None
+none_each zero q = refl
+none_each (suc n) zero = refl
+none_each (suc n) (suc q) = none_each n q
 
 -- it has begun one more
 pub holds_begun : (w : ManagerState) (y : NodeState) → HoldsFor w y → HoldsFor (record w { begun = w.begun + 1 }) (record y { begun = y.begun + 1 })
-holds_begun w y h = record { processes = h.processes; me = h.me; begun = ap (λ (n : ℕ). n + 1) h.begun; held = h.held; kept = h.kept }
+holds_begun w y h = record { processes = h.processes; me = h.me; begun = ap (λ (n : ℕ). n + 1) h.begun; held = h.held; kept = h.kept; asks = h.asks }
 
 pub holds_turned : (v w : ManagerState) (y : NodeState) → IsTurned v w → HoldsFor w y → HoldsFor v y
 holds_turned v w y s h = record {
@@ -74,11 +95,12 @@ holds_turned v w y s h = record {
   begun = s.begun ∙ h.begun;
   held = ap (λ (p : ℕ). lists_to v.held p) s.me ∙ (same_column (channel w.held) (channel v.held) w.me s.held ∙ h.held);
   kept = ap (λ (p : ℕ). lists_to v.kept p) s.me ∙ (same_column (channel w.kept) (channel v.kept) w.me s.kept ∙ h.kept);
+  asks = λ q. ap (λ (l : List (Option InstName)). slice_index_or l q None) s.asks ∙ h.asks q;
 }
 
 -- it is as it was
 pub turned_same : (v w : ManagerState) → IsSameManager v w → IsTurned v w
-turned_same v w s = record { size = s.size; me = s.me; inst = s.inst; begun = s.begun; held = s.held; kept = s.kept }
+turned_same v w s = record { size = s.size; me = s.me; inst = s.inst; begun = s.begun; held = s.held; kept = s.kept; asks = s.asks; answered = s.answered }
 
 -- its instance is closed: a rollback, a checkpoint
 pub holds_restored : (w : ManagerState) (a b : ChannelLists) (y : NodeState) → HoldsFor w y → channel a ≡ back_in w.me y.part.noted (channel w.kept) (channel w.held) → channel b ≡ gone w.me (channel w.kept) →
@@ -89,6 +111,7 @@ holds_restored w a b y h e f = record {
   begun = h.begun;
   held = restored (channel w.kept) (channel w.held) (channel a) w.me y.part.noted e ∙ ap₂ (λ (k l : NodeLists). (λ u. within (y.part.noted u) (k u) ++ within (y.part.noted u) (l u))) h.kept h.held;
   kept = emptied (channel w.kept) (channel b) w.me f;
+  asks = h.asks;
 }
 
 pub holds_trimmed : (w : ManagerState) (b : ChannelLists) (y : NodeState) → HoldsFor w y → channel b ≡ trims true w.me y.part.marks (channel w.kept) → HoldsFor (record w { kept = b }) (after_checkpoint true y)
@@ -98,14 +121,15 @@ holds_trimmed w b y h e = record {
   begun = h.begun;
   held = h.held;
   kept = trimmed (channel w.kept) (channel b) w.me y.part.marks e ∙ ap (λ (k : NodeLists). forgets true y.part.marks k) h.kept;
+  asks = h.asks;
 }
 
 pub holds_aborted : (w : ManagerState) (y : NodeState) → HoldsFor w y → HoldsFor w (after_closing false y)
 holds_aborted w y h = at_test y.part.is_rollback
   where
     at_test : (b : Bool) → HoldsFor w (if b then after_rollback false y else after_checkpoint false y)
-    at_test true = record { processes = h.processes; me = h.me; begun = h.begun; held = h.held; kept = h.kept }
-    at_test false = record { processes = h.processes; me = h.me; begun = h.begun; held = h.held; kept = h.kept }
+    at_test true = record { processes = h.processes; me = h.me; begun = h.begun; held = h.held; kept = h.kept; asks = h.asks }
+    at_test false = record { processes = h.processes; me = h.me; begun = h.begun; held = h.held; kept = h.kept; asks = h.asks }
 
 pub closing_rollback : (w : ManagerState) (y : NodeState) (c : Bool) → c ≡ true → y.part.is_rollback ≡ true → HoldsFor w (after_rollback true y) → HoldsFor w (after_closing c y)
 closing_rollback w y c i e h = rw (i, e) h

@@ -36,7 +36,7 @@ use Rattle.kt_node.proofs.Columns.{adding_one, adding_other, adding_own, one_for
 module _ (name : ℕ → InstName) (first : ℕ) (w : Net) (p : ℕ) (count : ℕ → ℕ) where
   -- lists and the log change alone
   pub done_lists : (d e : Doing) (v : Seen) (channel held kept : SeenLists) (log : List Event) → IsDone name first w p count d v
-      → e.state ≡ erased_process name v.processes p (count p) (v.states p) (λ q. held q p) (λ q. kept q p)
+      → e.state ≡ erased_process name v.processes p (count p) (v.states p) (λ q. held q p) (λ q. kept q p) e.state.asks e.state.answered
       → ((q u : ℕ) → u ≢ p → v.held q u ≡ held q u) → ((q u : ℕ) → u ≢ p → v.kept q u ≡ kept q u)
       → ((t : ℕ) → w.channel p t ++ e.puts t ≡ erased_parcels name (channel p t)) → ((u t : ℕ) → u ≢ p → v.channel u t ≡ channel u t)
       → Told name first count (w.rows ++ map (row_of p) e.rows) log v.begun → IsDone name first w p count e (record v { channel = channel; held = held; kept = kept; log = log })
@@ -60,7 +60,7 @@ module _ (name : ℕ → InstName) (first : ℕ) (w : Net) (p : ℕ) (count : �
   module _ (y : NodeState) (v : Seen) (h : IsDone name first w p count (nothing y) v) where
     pub done_sending : (q : ℕ) (body : ℤ) → (v.states p).used ≡ first + sends_of p v.log → IsDone name first w p count (sending y q body) (seen_sending v p q body)
     done_sending q body u = subst (λ (x : NodeState). IsDone name first w p count (sending x q body) (seen_sending v p q body)) (sym h.state)
-        (done_as name first w p count (nothing y) (sending (node_of name first count v p) q body) v _ _ v.held v.kept _ h refl (λ q u n. refl) (λ q u n. refl)
+        (done_as name first w p count (nothing y) (sending (node_of name first count v p y) q body) v _ _ v.held v.kept _ h refl (λ q u n. refl) (λ q u n. refl)
         (puts_one v.channel (λ t. []) q (in_code.App ((v.states p).used + 1) _ body) h.puts) (puts_other v.channel q _)
         (rows_one [] _ _ v.begun (told_sent name first _ v.log v.begun p count q (v.states p).used body u h.told)))
 
@@ -70,14 +70,14 @@ module _ (name : ℕ → InstName) (first : ℕ) (w : Net) (p : ℕ) (count : �
 
     pub done_failing : IsDone name first w p count (failing y) (seen_failing v p)
     done_failing = subst (λ (x : NodeState). IsDone name first w p count (failing x) (seen_failing v p)) (sym h.state)
-        (done_as name first w p count (nothing y) (failing (node_of name first count v p)) v _ v.channel v.held v.kept _ h refl (λ q u n. refl) (λ q u n. refl) h.puts (λ u t n. refl)
+        (done_as name first w p count (nothing y) (failing (node_of name first count v p y)) v _ v.channel v.held v.kept _ h refl (λ q u n. refl) (λ q u n. refl) h.puts (λ u t n. refl)
         (rows_one [] _ _ v.begun (told_failed name first _ v.log v.begun p count h.told)))
 
     pub done_receiving : (q m label to : ℕ) (body : ℤ) → row_at v.log m ≡ Some (row.Sent q to body) → label ≡ label_by_rows first v.log q m
         → IsDone name first w p count (receiving y q label body) (seen_receiving v v.channel v.held p q label m body)
     done_receiving q m label to body e f = subst (λ (x : NodeState). IsDone name first w p count (receiving x q label body) (seen_receiving v v.channel v.held p q label m body)) (sym h.state)
-        (done_as name first w p count (nothing y) (receiving (node_of name first count v p) q label body) v _ v.channel v.held _ _ h
-        (λ i. record (node_of name first count v p) { calls = (v.states p).calls ++ received q label ∷ []; kept = λ u. one_for name v.kept q p (in_code.App label m body) u i })
+        (done_as name first w p count (nothing y) (receiving (node_of name first count v p y) q label body) v _ v.channel v.held _ _ h
+        (λ i. record (node_of name first count v p y) { calls = (v.states p).calls ++ received q label ∷ []; kept = λ u. one_for name v.kept q p (in_code.App label m body) u i })
         (λ q u n. refl) (λ t u n. one_other v.kept q p _ t u n) h.puts (λ u t n. refl)
         (rows_one [] _ _ v.begun (told_received name first _ v.log v.begun p count q m label to body e f h.told)))
 
@@ -98,8 +98,8 @@ module _ (name : ℕ → InstName) (first : ℕ) (w : Net) (p : ℕ) (count : �
 
     pub done_holding : (q m label : ℕ) (body : ℤ) → IsDone name first w p count (holding y q (put.App label body)) (record v { held = changes.with_parcel v.held q p (in_code.App label m body) })
     done_holding q m label body = subst (λ (x : NodeState). IsDone name first w p count (holding x q (put.App label body)) (record v { held = changes.with_parcel v.held q p (in_code.App label m body) })) (sym h.state)
-        (done_lists (nothing y) (holding (node_of name first count v p) q (put.App label body)) v v.channel _ v.kept v.log h
-        (λ i. record (node_of name first count v p) { held = λ u. one_for name v.held q p (in_code.App label m body) u i })
+        (done_lists (nothing y) (holding (node_of name first count v p y) q (put.App label body)) v v.channel _ v.kept v.log h
+        (λ i. record (node_of name first count v p y) { held = λ u. one_for name v.held q p (in_code.App label m body) u i })
         (λ t u n. one_other v.held q p _ t u n) (λ q u n. refl) h.puts (λ u t n. refl) h.told)
 
     -- replies

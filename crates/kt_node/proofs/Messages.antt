@@ -1,28 +1,33 @@
 -- Messages received, held and taken, as the node's rules have it.
-use Rattle.std.specs.Prelude.{Option, Some, None, IfSome, IfNone, slice_get}
-use Rattle.std.proofs.Common.{◌≡◌, ◌∙◌, ℕ, ℤ, Bool, true, false, List, [], ◌∷◌, ◌++◌, drop, refl, sym, ap, subst}
+use Rattle.std.specs.Prelude.{◌==◌, ◌&&◌, not, nat_lt, if◌then◌else◌, Option, Some, None, is_some, is_none, IfSome, IfNone, slice_get}
+use Rattle.std.proofs.lemmas.Bool.Decides.{nat_tests}
+use Rattle.kt_base.specs.declared.words.Verb.TheVariants as verb
+use Rattle.std.proofs.Common.{◌≡◌, ◌∙◌, ℕ, ℤ, ◌+◌, ◌<◌, arith, Bool, true, false, List, [], ◌∷◌, ◌++◌, drop, refl, sym, ap, subst}
+use Rattle.kt_base.specs.Sets.{has}
 use Rattle.kt_meaning.specs.Past.{at_one}
 use Rattle.kt_fifo.specs.declared.parcels.Parcel.{Parcel}
 use Rattle.kt_fifo.specs.declared.parcels.Parcel.TheVariants as parcel
 use Rattle.kt_fifo.specs.Channels.{ChannelLists, channel, at_pair}
 use Rattle.kt_plan.specs.declared.steps.Act.TheVariants as answered
-use Rattle.kt_tables.specs.Calls.{received, Speaks}
+use Rattle.kt_tables.specs.Calls.{sent, received, Speaks}
 use Rattle.kt_machine.specs.Seen.{SeenProcess}
 use Rattle.kt_process.specs.ProcessStates.{ProcessState}
 use Rattle.kt_process.specs.Shown.{IsSeenAs}
-use Rattle.kt_spacetime.specs.declared.named_rows.NamedEvent.TheVariants.{Received}
+use Rattle.kt_spacetime.specs.declared.names.InstName.{InstName}
+use Rattle.kt_spacetime.specs.declared.named_rows.NamedCause.TheVariants.{Down}
+use Rattle.kt_spacetime.specs.declared.named_rows.NamedEvent.TheVariants.{Sent, Received}
 use Rattle.kt_node.specs.declared.parcels.NodeParcel.{NodeParcel}
 use Rattle.kt_node.specs.declared.parcels.NodeParcel.TheVariants as put
-use Rattle.kt_node.specs.Nodes.{NodeLists, NodeState, Doing, with_one, is_in_rollback, Held}
-use Rattle.kt_node.specs.NodeMessages.{receiving, arriving, holding, taking_held}
-use Rattle.kt_node.specs.NodeSteps.{node_after, taking}
+use Rattle.kt_node.specs.Nodes.{NodeLists, NodeState, Doing, nothing, with_one, is_in_rollback, Send, Held}
+use Rattle.kt_node.specs.NodeMessages.{sending, receiving, arriving, holding, taking_held, refusing}
+use Rattle.kt_node.specs.NodeSteps.{is_step, node_after, taking}
 use Rattle.kt_node.specs.Erasing.{erased_parcel, erased_parcels}
 use Rattle.kt_node.specs.declared.effects.Effects.{Effects}
 use Rattle.kt_node.specs.declared.effects.Parcels.TheVariants as puts
 use Rattle.kt_node.specs.Managers.{ManagerState, ShowsNode, IsSameManager, no_name, process_of}
 use Rattle.kt_node.specs.Effects.{IsDone}
 use Rattle.kt_node.specs.declared.faults.ManagerFault.TheVariants as fault
-use Rattle.kt_node.specs.Faults.{held_fault, first_held}
+use Rattle.kt_node.specs.Faults.{stranger, held_fault, first_held}
 use Rattle.kt_node.proofs.Lists.{pushed, popped, holds_turned, turned_same}
 
 -- but for spare room it is as it was
@@ -31,6 +36,7 @@ shows_same v w y s h = record {
   holds = holds_turned v w y (turned_same v w s) h.holds;
   process = subst (λ (x : ProcessState). IsSeenAs x (process_of y)) (sym s.process) h.process;
   inst = s.inst ∙ h.inst;
+  answered = λ q. ap (λ (n : ℕ). has n q) s.answered ∙ h.answered q;
 }
 
 -- who is up keeps the message
@@ -51,9 +57,11 @@ receives w x b y from label body h up e f speaks =
           begun = h.holds.begun;
           held = h.holds.held;
           kept = pushed (channel w.kept) (channel b) from w.me (parcel.App label 1 body) e ∙ ap (λ (l : NodeLists). with_one from (put.App label body) l) h.holds.kept;
+          asks = h.holds.asks;
         };
         process = f (process_of y) h.process (subst (λ (d : Doing). Speaks d.state.calls) (sym is) speaks);
         inst = h.inst;
+        answered = h.answered;
       };
       puts = λ q. refl;
       rows = refl;
@@ -70,9 +78,11 @@ shows_holding w b y from label body h e = record {
     begun = h.holds.begun;
     held = pushed (channel w.held) (channel b) from w.me (parcel.App label 1 body) e ∙ ap (λ (l : NodeLists). with_one from (put.App label body) l) h.holds.held;
     kept = h.holds.kept;
+    asks = h.holds.asks;
   };
   process = h.process;
   inst = h.inst;
+  answered = h.answered;
 }
 
 pub done_holding : (w : ManagerState) (e : Effects) (y : NodeState) (from label : ℕ) (body : ℤ) (able : Bool) → is_in_rollback y ≡ true
@@ -98,9 +108,11 @@ shows_popped w b y from h e = record {
     begun = h.holds.begun;
     held = popped (channel w.held) (channel b) from w.me e ∙ ap (λ (l : NodeLists). at_one from (drop 1 (l from)) l) h.holds.held;
     kept = h.holds.kept;
+    asks = h.holds.asks;
   };
   process = h.process;
   inst = h.inst;
+  answered = h.answered;
 }
 
 takes_held : (y : NodeState) (from label : ℕ) (body : ℤ) (rest : List NodeParcel) → is_in_rollback y ≡ false → y.held from ≡ put.App label body ∷ rest → arriving (record y { held = at_one from rest y.held }) from label body ≡ node_after y (Held from)
@@ -145,3 +157,39 @@ pub held_none : (w v : ManagerState) → w ≡ v → (from : ℕ) → None ≡ s
 held_none w v i from e y h =
     let k = subst (λ (u : ManagerState). ShowsNode u y) (sym i) h in
     ap first_held (sym (ap (λ (l : NodeLists). l from) k.holds.held) ∙ none_of (channel w.held from w.me) e)
+
+-- who is asked to send, and may
+is_sent : (y : NodeState) (to : ℕ) (body : ℤ) → y.me < y.processes → stranger y to ≡ None → is_some y.inst ≡ false → is_step y (Send to body) ≡ true
+is_sent y to body b s e = at_tests (nat_lt y.me y.processes) (nat_lt to y.processes) y.inst (to == y.me) within s e
+  where
+    within : nat_lt y.me y.processes ≡ true
+    within = grind (arith, nat_tests, b)
+
+    at_tests : (a c : Bool) (o : Option InstName) (d : Bool) → a ≡ true → (if not c then Some fault.Unknown else if d then Some fault.Itself else None) ≡ None → is_some o ≡ false → ((a && c) && (is_none o && not d)) ≡ true
+    at_tests true true None false a s e = refl
+    at_tests true true None true a s e = absurd (cc (s))
+    at_tests true false o d a s e = absurd (cc (s))
+    at_tests true true (Some name) d a s e = absurd (cc (e))
+    at_tests false c o d a s e = absurd (cc (a))
+
+pub sends : (w : ManagerState) (x : ProcessState) (y : NodeState) (to label : ℕ) (body : ℤ) → ShowsNode w y → w.me < w.size → stranger y to ≡ None → is_some w.inst ≡ false → w.process.up ≡ true → label ≡ w.process.used + 1
+    → ((z : SeenProcess) → IsSeenAs w.process z → Speaks (z.calls ++ sent to (z.used + 1) ∷ []) → IsSeenAs x (record z { calls = z.calls ++ sent to (z.used + 1) ∷ []; used = z.used + 1 }))
+    → Speaks ((node_after y (Send to body)).state.calls)
+    → IsDone (record w { process = x }) (record { rows = Some (Sent to body label) ∷ None ∷ None ∷ None ∷ []; acts = answered.Nothing ∷ answered.Nothing ∷ []; parcels = puts.One to (put.App label body) }) (node_after y (Send to body))
+sends w x y to label body h me other free up number f speaks =
+    let step = is_sent y to body (subst (λ (n : ℕ). n < y.processes) h.holds.me (subst (λ (n : ℕ). w.me < n) h.holds.processes me)) other (sym (ap (λ (o : Option InstName). is_some o) h.inst) ∙ free) in
+    let is : node_after y (Send to body) ≡ sending y to body = ap (λ (b : Bool). if b then (if y.up then sending y to body else refusing y verb.Send Down) else nothing y) step
+    ∙ ap (λ (b : Bool). if b then sending y to body else refusing y verb.Send Down) (sym h.process.up ∙ up) in
+    let next : label ≡ y.used + 1 = number ∙ ap (λ (n : ℕ). n + 1) h.process.used in
+    subst (λ (d : Doing). IsDone (record w { process = x }) (record { rows = Some (Sent to body label) ∷ None ∷ None ∷ None ∷ []; acts = answered.Nothing ∷ answered.Nothing ∷ []; parcels = puts.One to (put.App label body) }) d) (sym is)
+    (record {
+      state = record {
+        holds = record { processes = h.holds.processes; me = h.holds.me; begun = h.holds.begun; held = h.holds.held; kept = h.holds.kept; asks = h.holds.asks };
+        process = f (process_of y) h.process (subst (λ (d : Doing). Speaks d.state.calls) is speaks);
+        inst = h.inst;
+        answered = h.answered;
+      };
+      puts = λ q. ap (λ (n : ℕ). if q == to then put.App n body ∷ [] else []) next;
+      rows = ap (λ (n : ℕ). Sent to body n ∷ []) next;
+      acts = refl;
+    })

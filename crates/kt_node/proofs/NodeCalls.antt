@@ -9,7 +9,6 @@ use Rattle.kt_meaning.specs.Past.{at_one, is_rollback_kind}
 use Rattle.kt_tables.specs.Calls.{Call}
 use Rattle.kt_machine.specs.CallTests.{must_take, must_roll}
 use Rattle.kt_machine.specs.SeenJoining.{no_note}
-use Rattle.kt_machine.specs.SeenReplies.{part_after_reply}
 use Rattle.kt_machine.specs.Values.{Act, closing as acts_of_closing}
 use Rattle.kt_spacetime.specs.declared.names.InstName.{InstName}
 use Rattle.kt_spacetime.specs.declared.named_rows.NamedCause.TheVariants.{Down}
@@ -19,9 +18,9 @@ use Rattle.kt_node.specs.declared.parcels.NodeParcel.{NodeParcel}
 use Rattle.kt_node.specs.declared.parcels.NodeParcel.TheVariants.{App, Ask, Reply, Decide}
 use Rattle.kt_node.specs.Nodes.{NodeState, Input, Send, Begin, Fail, Held, Comes, Doing, nothing, is_in_rollback}
 use Rattle.kt_node.specs.NodeMessages.{sending, receiving, arriving, taking_held, refusing}
-use Rattle.kt_node.specs.NodeJoining.{next_name, beginning, joining_checkpoint, joining_rollback}
+use Rattle.kt_node.specs.NodeJoining.{next_name, beginning, joining_checkpoint, joining_rollback, asking}
 use Rattle.kt_node.specs.NodeClosing.{after_checkpoint, after_rollback, closing, ending, settling}
-use Rattle.kt_node.specs.NodeSteps.{is_one, is_in, starting, told_to_begin, asked, taking, is_step, node_after}
+use Rattle.kt_node.specs.NodeSteps.{is_one, starting, told_to_begin, asked, awaits, heeds, counting, taking, is_step, node_after}
 use Rattle.kt_node.specs.NodeHistories.{call_of_row, call_of_act, calls_told}
 
 -- what was done tells the calls that were made since this list
@@ -100,15 +99,16 @@ module _ (y : NodeState) where
   ask_tells None q able k false label = either_tells y.calls (not (must_take y.calls q label)) _ _ none
       (either_tells y.calls (not (able && y.up)) _ _ none (settling_tells y.calls k (joining_checkpoint k (Some q) (nothing y)) refl))
 
+module _ (y : NodeState) where
   parcel_tells : (q : ℕ) (able : Bool) (x : NodeParcel) → Tells y.calls (taking y q able x)
-  parcel_tells q able (App label body) = either_tells y.calls (is_in_rollback y) _ _ none (arriving_tells y q label body)
-  parcel_tells q able (Ask k kind label) = ask_tells y.inst q able k (is_rollback_kind (Some kind)) label
-  parcel_tells q able (Reply k w) = either_tells y.calls (is_in y.inst k && not (y.part.awaited == 0)) _ _ (settling_tells y.calls k (nothing (record y { part = part_after_reply y.part w })) none) none
-  parcel_tells q able (Decide k c) = either_tells y.calls (is_in y.inst k) _ _ (closing_tells y.calls k c (nothing y) none) none
+  parcel_tells q able (App label body) = either_tells y.calls (is_in_rollback y) _ _ (none y) (arriving_tells y q label body)
+  parcel_tells q able (Ask k kind label) = ask_tells (asking y q k) y.inst q able k (is_rollback_kind (Some kind)) label
+  parcel_tells q able (Reply k w) = either_tells y.calls (awaits y q k) _ _ (settling_tells y.calls k (nothing (counting y q w)) (none y)) (none y)
+  parcel_tells q able (Decide k c) = either_tells y.calls (heeds y q k) _ _ (closing_tells y.calls k c (nothing y) (none y)) (none y)
 
   pub step_tells : (x : Input) → Tells y.calls (node_after y x)
-  step_tells (Send q body) = either_tells y.calls (is_step y (Send q body)) (if y.up then sending y q body else refusing y verb.Send Down) (nothing y) (either_tells y.calls y.up (sending y q body) (refusing y verb.Send Down) refl none) none
-  step_tells (Begin roll able) = begin_tells y.inst roll able
-  step_tells Fail = either_tells y.calls y.up _ _ none none
-  step_tells (Held q) = either_tells y.calls (is_in_rollback y) _ _ none (held_tells y q (y.held q))
+  step_tells (Send q body) = either_tells y.calls (is_step y (Send q body)) (if y.up then sending y q body else refusing y verb.Send Down) (nothing y) (either_tells y.calls y.up (sending y q body) (refusing y verb.Send Down) refl (none y)) (none y)
+  step_tells (Begin roll able) = begin_tells y y.inst roll able
+  step_tells Fail = either_tells y.calls y.up _ _ (none y) (none y)
+  step_tells (Held q) = either_tells y.calls (is_in_rollback y) _ _ (none y) (held_tells y q (y.held q))
   step_tells (Comes q able x) = parcel_tells q able x

@@ -8,7 +8,6 @@ use Rattle.kt_meaning.specs.Past.{at_one, is_rollback_kind}
 use Rattle.kt_tables.specs.Calls.{Call, sent, received, on_tentative, on_commit, on_abort, on_rollback}
 use Rattle.kt_machine.specs.CallTests.{must_take, must_roll}
 use Rattle.kt_machine.specs.SeenJoining.{no_note}
-use Rattle.kt_machine.specs.SeenReplies.{part_after_reply}
 use Rattle.kt_spacetime.specs.declared.names.InstName.{InstName}
 use Rattle.kt_spacetime.specs.declared.named_rows.NamedCause.TheVariants.{Down, Busy}
 use Rattle.kt_spacetime.specs.declared.named_rows.NamedEvent.TheVariants.{Dropped}
@@ -16,9 +15,9 @@ use Rattle.kt_node.specs.declared.parcels.NodeParcel.{NodeParcel}
 use Rattle.kt_node.specs.declared.parcels.NodeParcel.TheVariants.{App, Ask, Reply, Decide}
 use Rattle.kt_node.specs.Nodes.{NodeState, Input, Send, Begin, Fail, Held, Comes, Doing, nothing, is_in_rollback}
 use Rattle.kt_node.specs.NodeMessages.{sending, receiving, arriving, holding, taking_held, failing, refusing, unable}
-use Rattle.kt_node.specs.NodeJoining.{next_name, beginning, joining_checkpoint, joining_rollback, replying, unwilling, noting}
+use Rattle.kt_node.specs.NodeJoining.{next_name, beginning, joining_checkpoint, joining_rollback, replying, unwilling, noting, asking}
 use Rattle.kt_node.specs.NodeClosing.{after_checkpoint, after_rollback, closing, ending, settling}
-use Rattle.kt_node.specs.NodeSteps.{is_one, is_in, starting, told_to_begin, asked, taking, is_step, node_after}
+use Rattle.kt_node.specs.NodeSteps.{is_one, is_in, starting, told_to_begin, asked, awaits, heeds, counting, taking, is_step, node_after}
 use Rattle.kt_node.specs.Nets.{opening_net}
 use Rattle.kt_node.specs.NodeHistories.{Histories, no_history, histories_after, histories, GoesOn, is_in_checkpoint, HasCheckpoints}
 
@@ -147,12 +146,13 @@ module _ (before : List Call) where
         (either (not (able && y.up)) (unwilling y q k (unable y.up)) (settling k (joining_checkpoint k (Some q) (nothing y))) h
         (settles k (joining_checkpoint k (Some q) (nothing y)) refl (takes y.calls (is_in_checkpoint y) h)))
 
+  module _ (y : NodeState) (h : Stays before y) where
     parcels : (q : ℕ) (able : Bool) (x : NodeParcel) → Stays before (taking y q able x).state
     parcels q able (App label body) = either (is_in_rollback y) (holding y q (App label body)) (arriving y q label body) h (arrives y q label body h)
-    parcels q able (Ask k kind label) = asks y.inst q able k (is_rollback_kind (Some kind)) label
-    parcels q able (Reply k w) = where_so (is_in y.inst k && not (y.part.awaited == 0)) (settling k (nothing (record y { part = part_after_reply y.part w }))) (nothing y)
-        (λ e. settles k (nothing (record y { part = part_after_reply y.part w })) (inside_of y.inst k (first_one (is_in y.inst k) _ e)) h) h
-    parcels q able (Decide k c) = where_so (is_in y.inst k) (closing k c (nothing y)) (nothing y) (λ e. closes y c (inside_of y.inst k e) h) h
+    parcels q able (Ask k kind label) = asks (asking y q k) h y.inst q able k (is_rollback_kind (Some kind)) label
+    parcels q able (Reply k w) = where_so (awaits y q k) (settling k (nothing (counting y q w))) (nothing y)
+        (λ e. settles k (nothing (counting y q w)) (inside_of y.inst k (first_one (is_in y.inst k) _ (first_one _ _ e))) h) h
+    parcels q able (Decide k c) = where_so (heeds y q k) (closing k c (nothing y)) (nothing y) (λ e. closes y c (inside_of y.inst k (first_one (is_in y.inst k) _ e)) h) h
 
     held : (q : ℕ) (l : List NodeParcel) → Stays before (taking_held y q l).state
     held q [] = h
@@ -164,7 +164,7 @@ module _ (before : List Call) where
     goes_on : (x : Input) → Stays before (node_after y x).state
     goes_on (Send q body) = either (is_step y (Send q body)) (if y.up then sending y q body else refusing y verb.Send Down) (nothing y)
         (either y.up (sending y q body) (refusing y verb.Send Down) (with_message before y.calls (is_in_checkpoint y) (sent q (y.used + 1)) refl h) h) h
-    goes_on (Begin roll able) = begins y.inst roll able
+    goes_on (Begin roll able) = begins y h y.inst roll able
     goes_on Fail = either y.up (failing y) (refusing y verb.Fail Down) h h
     goes_on (Held q) = either (is_in_rollback y) (nothing y) (taking_held y q (y.held q)) h (held q (y.held q))
     goes_on (Comes q able x) = parcels q able x

@@ -5,16 +5,15 @@ use Rattle.kt_base.specs.declared.words.Verb.TheVariants as verb
 use Rattle.kt_meaning.specs.Past.{at_one, is_rollback_kind}
 use Rattle.kt_machine.specs.CallTests.{must_take, must_roll}
 use Rattle.kt_machine.specs.SeenJoining.{no_note}
-use Rattle.kt_machine.specs.SeenReplies.{part_after_reply}
 use Rattle.kt_machine.specs.Values.{Act, Apply, Keep, Promote, Discard, Restore, Drop, closing as acts_of_closing}
 use Rattle.kt_spacetime.specs.declared.names.InstName.{InstName}
 use Rattle.kt_node.specs.declared.parcels.NodeParcel.{NodeParcel}
 use Rattle.kt_node.specs.declared.parcels.NodeParcel.TheVariants.{App, Ask, Reply, Decide}
 use Rattle.kt_node.specs.Nodes.{NodeState, Input, Send, Begin, Fail, Held, Comes, Doing, nothing, is_in_rollback}
 use Rattle.kt_node.specs.NodeMessages.{arriving, taking_held, refusing, unable}
-use Rattle.kt_node.specs.NodeJoining.{next_name, beginning, joining_checkpoint, joining_rollback, replying, unwilling}
+use Rattle.kt_node.specs.NodeJoining.{next_name, beginning, joining_checkpoint, joining_rollback, replying, unwilling, asking}
 use Rattle.kt_node.specs.NodeClosing.{ending, settling}
-use Rattle.kt_node.specs.NodeSteps.{is_one, is_in, starting, told_to_begin, asked, taking, is_step, node_after}
+use Rattle.kt_node.specs.NodeSteps.{is_one, starting, told_to_begin, asked, awaits, heeds, counting, taking, is_step, node_after}
 use Rattle.kt_node.specs.NodeLooks.{where_able, asks_to_save, would_save}
 
 -- whether the object's state is kept among some acts
@@ -125,19 +124,6 @@ module _ (y : NodeState) where
       at_tests false a true = refl
       at_tests false a false = refl
 
-  parcel_keeps : (q : ℕ) (able : Bool) (x : NodeParcel) → keeps (taking y q able x).acts ≡ (((is_none y.inst && y.up) && asks_to_save y q x) && able)
-  parcel_keeps q able (App label body) = none_kept (is_in_rollback y) _ _ refl (arriving_keeps y q label body) ∙ no_one (is_none y.inst) y.up able
-  parcel_keeps q able (Ask k kind label) = ask_keeps y.inst q able k (is_rollback_kind (Some kind)) label
-  parcel_keeps q able (Reply k w) = none_kept (is_in y.inst k && not (y.part.awaited == 0)) _ _ (settling_keeps k (nothing (record y { part = part_after_reply y.part w }))) refl ∙ no_one (is_none y.inst) y.up able
-  parcel_keeps q able (Decide k c) = none_kept (is_in y.inst k) _ _ (closing_keeps y.part.is_rollback c) refl ∙ no_one (is_none y.inst) y.up able
-
-  pub keeps_is : (x : Input) (able : Bool) → keeps (node_after y (where_able able x)).acts ≡ (would_save y x && able)
-  keeps_is (Send q body) able = none_kept (is_step y (Send q body)) _ _ (none_kept y.up _ _ refl refl) refl
-  keeps_is (Begin roll was) able = begin_keeps y.inst roll able
-  keeps_is Fail able = none_kept y.up _ _ refl refl
-  keeps_is (Held q) able = none_kept (is_in_rollback y) _ _ refl (taking_held_keeps y q (y.held q))
-  keeps_is (Comes q was x) able = parcel_keeps q able x
-
   -- whether it can be saved
   begin_counts : (o : Option InstName) (roll a b : Bool) → ((is_none o && y.up) && not roll) ≡ false → told_to_begin o y roll a ≡ told_to_begin o y roll b
   begin_counts (Some name) roll a b e = refl
@@ -166,15 +152,29 @@ module _ (y : NodeState) where
       at_tests true false false true e = refl
       at_tests true false false false e = refl
 
+module _ (y : NodeState) where
+  parcel_keeps : (q : ℕ) (able : Bool) (x : NodeParcel) → keeps (taking y q able x).acts ≡ (((is_none y.inst && y.up) && asks_to_save y q x) && able)
+  parcel_keeps q able (App label body) = none_kept (is_in_rollback y) _ _ refl (arriving_keeps y q label body) ∙ no_one (is_none y.inst) y.up able
+  parcel_keeps q able (Ask k kind label) = ask_keeps (asking y q k) y.inst q able k (is_rollback_kind (Some kind)) label
+  parcel_keeps q able (Reply k w) = none_kept (awaits y q k) _ _ (settling_keeps k (nothing (counting y q w))) refl ∙ no_one (is_none y.inst) y.up able
+  parcel_keeps q able (Decide k c) = none_kept (heeds y q k) _ _ (closing_keeps y.part.is_rollback c) refl ∙ no_one (is_none y.inst) y.up able
+
+  pub keeps_is : (x : Input) (able : Bool) → keeps (node_after y (where_able able x)).acts ≡ (would_save y x && able)
+  keeps_is (Send q body) able = none_kept (is_step y (Send q body)) _ _ (none_kept y.up _ _ refl refl) refl
+  keeps_is (Begin roll was) able = begin_keeps y y.inst roll able
+  keeps_is Fail able = none_kept y.up _ _ refl refl
+  keeps_is (Held q) able = none_kept (is_in_rollback y) _ _ refl (taking_held_keeps y q (y.held q))
+  keeps_is (Comes q was x) able = parcel_keeps q able x
+
   parcel_counts : (q : ℕ) (x : NodeParcel) (a b : Bool) → ((is_none y.inst && y.up) && asks_to_save y q x) ≡ false → taking y q a x ≡ taking y q b x
   parcel_counts q (App label body) a b e = refl
-  parcel_counts q (Ask k kind label) a b e = ask_counts y.inst q k (is_rollback_kind (Some kind)) label a b e
+  parcel_counts q (Ask k kind label) a b e = ask_counts (asking y q k) y.inst q k (is_rollback_kind (Some kind)) label a b e
   parcel_counts q (Reply k w) a b e = refl
   parcel_counts q (Decide k c) a b e = refl
 
   pub counts_is : (x : Input) (a b : Bool) → would_save y x ≡ false → node_after y (where_able a x) ≡ node_after y (where_able b x)
   counts_is (Send q body) a b e = refl
-  counts_is (Begin roll was) a b e = begin_counts y.inst roll a b e
+  counts_is (Begin roll was) a b e = begin_counts y y.inst roll a b e
   counts_is Fail a b e = refl
   counts_is (Held q) a b e = refl
   counts_is (Comes q was x) a b e = parcel_counts q x a b e

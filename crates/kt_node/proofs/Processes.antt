@@ -1,5 +1,5 @@
 -- A manager's process, and the state of a node.
-use Rattle.std.proofs.Common.{◌≡◌, Bool, true, false, Option, Some, None, refl, sym, subst}
+use Rattle.std.proofs.Common.{◌≡◌, ℕ, Bool, true, false, Option, Some, None, refl, sym, subst}
 use Rattle.std.specs.Prelude.{if◌then◌else◌}
 use Rattle.kt_process.specs.ProcessStates.{ProcessState, inst_of}
 use Rattle.kt_process.specs.declared.side.Side.{Side}
@@ -33,6 +33,15 @@ pub closed_is : (c : Bool) (y : NodeState) → closed_as c (process_of y) ≡ pr
 closed_is c y = at_test y.part.is_rollback c
   where
     at_test : (b c : Bool) → (if b then process_after_rollback (process_of y) c else process_after_checkpoint (process_of y) c) ≡ process_of (if b then after_rollback c y else after_checkpoint c y)
+    at_test true true = refl
+    at_test true false = refl
+    at_test false c = refl
+
+-- who has replied is the same
+pub closed_answered : (c : Bool) (y : NodeState) (q : ℕ) → y.answered q ≡ (after_closing c y).answered q
+closed_answered c y q = at_test y.part.is_rollback c
+  where
+    at_test : (b c : Bool) → y.answered q ≡ (if b then after_rollback c y else after_checkpoint c y).answered q
     at_test true true = refl
     at_test true false = refl
     at_test false c = refl

@@ -1,18 +1,21 @@
 -- Each step of a net is that of what is seen of the state.
-use Rattle.std.proofs.Common.{◌≡◌, ◌∙◌, ℕ, ◌≤◌, Bool, true, false, not, List, [], ◌∷◌, refl, sym, ap, subst}
-use Rattle.std.specs.Prelude.{◌&&◌, if◌then◌else◌}
+use Rattle.std.proofs.Common.{◌≡◌, ◌∙◌, ℕ, ◌≤◌, ◌<◌, Bool, true, false, not, List, [], ◌∷◌, refl, sym, ap, subst, arith}
+use Rattle.std.specs.Prelude.{◌==◌, ◌&&◌, if◌then◌else◌}
+use Rattle.std.proofs.lemmas.Bool.Decides.{nat_tests}
 use Rattle.kt_fifo.specs.declared.parcels.Parcel.{Parcel as SeenParcel}
 use Rattle.kt_meaning.specs.Past.{at_one}
 use Rattle.kt_protocol.proofs.Answering.{reply_facts}
 use Rattle.kt_protocol.proofs.Beginning.{decide_facts}
+use Rattle.kt_protocol.proofs.LateWholeSteps.{once_closed_run}
 use Rattle.kt_protocol.proofs.Replying.{ask_facts}
+use Rattle.kt_protocol.proofs.WholeSteps.{all_after_run}
 use Rattle.kt_protocol.specs.Parcels.{Parcel, App, Ask, Reply, Decide}
 use Rattle.kt_protocol.specs.States.{ProtocolStep, Send, Begin, Fail, Take, State, opening}
 use Rattle.kt_protocol.specs.LateSteps.{late_run}
 use Rattle.kt_protocol.specs.OnceClosed.{once_closed}
 use Rattle.kt_machine.specs.Labelling.{Labelling, labelling}
 use Rattle.kt_machine.specs.Messages.{AreSentTo}
-use Rattle.kt_machine.specs.Seen.{Seen, seen_parcels, seen}
+use Rattle.kt_machine.specs.Seen.{Seen, no_part, part_of, seen_parcels, seen}
 use Rattle.kt_machine.specs.ListChanges as changes
 use Rattle.kt_machine.specs.SeenMessages.{seen_without_front}
 use Rattle.kt_machine.specs.Transition.{is_seen_ready, seen_front, seen_take, transition}
@@ -23,17 +26,21 @@ use Rattle.kt_spacetime.specs.declared.names.InstName.{InstName}
 use Rattle.kt_node.specs.declared.parcels.NodeParcel.{NodeParcel}
 use Rattle.kt_node.specs.Nodes.{NodeState, nothing}
 use Rattle.kt_node.specs.NodeMessages.{taking_held}
+use Rattle.kt_node.specs.NodeJoining.{asking}
+use Rattle.kt_node.specs.NodeSteps.{is_in}
 use Rattle.kt_node.specs.Nets.{Net, with_doing, with_rest, has_some, net_front, net_step}
 use Rattle.kt_node.specs.Erasing.{erased_parcels}
 use Rattle.kt_node.proofs.Naming.{IsNaming}
 use Rattle.kt_node.proofs.Told.{given}
-use Rattle.kt_node.proofs.Done.{node_of, Shows, IsDone, shows_done, done_nothing}
+use Rattle.kt_node.proofs.Done.{node_of, Shows, IsDone, shows_done, done_nothing, done_heard}
 use Rattle.kt_node.proofs.Columns.{rest_for, rest_other, rest_of_channel}
 use Rattle.kt_node.proofs.MessageRules.{done_lists, done_arriving}
 use Rattle.kt_node.proofs.Commands.{ends_begin, ends_send, ends_fail}
+use Rattle.kt_node.proofs.Owing.{Follows}
+use Rattle.kt_node.proofs.Owed.{IsDue}
 use Rattle.kt_node.proofs.Takings.{done_ask, done_decision, done_reply, done_message, ready_test}
 
-module _ (n first : ℕ) (steps : List ProtocolStep) (name : ℕ → InstName) (count : ℕ → ℕ) (w : Net) (s : Shows name first count w (seen first (late_run (opening n) steps))) where
+module _ (n first : ℕ) (steps : List ProtocolStep) (name : ℕ → InstName) (count : ℕ → ℕ) (w : Net) (s : Shows name first count w (seen first (late_run (opening n) steps))) (due : IsDue (late_run (opening n) steps) w) where
   abbrev c : State
   c = late_run (opening n) steps
 
@@ -58,6 +65,39 @@ module _ (n first : ℕ) (steps : List ProtocolStep) (name : ℕ → InstName) (
   takes p q rest = done_nothing name first (with_rest w q p (erased_parcels name (parcels rest))) p count (w.nodes p) (seen_without_front v p q (parcels rest)) (s.nodes p) (λ u o. s.nodes u)
       (rest_of_channel name v.channel w.channel q p (parcels rest) s.channels) s.told
 
+  -- a reply that comes is awaited of who replies, which has not replied yet
+  pub reply_due : (p q k : ℕ) (b : Bool) (rest : List Parcel) → c.channel q p ≡ Reply k b ∷ rest → (1 ≤ k) × (((v.states p).inst ≡ k) × (((v.states p).part.asked q ≡ true) × ((w.nodes p).answered q ≡ false)))
+  reply_due p q k b rest e =
+      let g = (known_run n steps).invariant in
+      let f = reply_facts (once_closed c) q p k b rest e g in
+      let pos = (g.positions.joined_instance k p f.1).0 in
+      let here : c.so_far.open_in p ≡ k = g.positions.member_open k p f.1 f.2 in
+      let asked : c.asked k p q ≡ true = subst (λ (z : State). z.awaits k p q ≡ true → z.asked k p q ≡ true) (sym (once_closed_run n steps)) ((all_after_run n steps).always.asked.asked_awaits k p q) f.0 in (
+        pos,
+        (
+          here,
+          (
+            in_part (c.so_far.open_in p) here pos asked,
+            due.replied p q (subst (λ (j : ℕ). (0 < j) × (c.awaits j p q ≡ true)) (sym here) (pos, f.0)),
+          ),
+        ),
+      )
+    where
+      none : (j : ℕ) → (j == 0) ≡ true → 0 < j → ⊥
+      none j e b = grind (arith, nat_tests, e, b)
+
+      in_part : (j : ℕ) → j ≡ k → 0 < k → c.asked k p q ≡ true → (if j == 0 then no_part else part_of t c p j).asked q ≡ true
+      in_part j i b a = at_test (j == 0) refl
+        where
+          at_test : (z : Bool) → (j == 0) ≡ z → (if z then no_part else part_of t c p j).asked q ≡ true
+          at_test true x = absurd (none j x (subst (λ (n : ℕ). 0 < n) (sym i) b))
+          at_test false x = ap (λ (n : ℕ). c.asked n p q) i ∙ a
+
+  -- and a decision is of what its sender asked last
+  pub decision_due : (p q k : ℕ) (b : Bool) (rest : List Parcel) → c.channel q p ≡ Decide k b ∷ rest → is_in ((w.nodes p).asks q) (name k) ≡ true
+  unfolding seen_parcels
+  decision_due p q k b rest e = (subst (Follows ((w.nodes p).asks q)) (s.channels q p ∙ ap (λ (x : List Parcel). erased_parcels name (parcels x)) e) (due.told q p).0).0
+
   -- the front of a channel
   shows_front : (p q : ℕ) (able : Bool) (x : List Parcel) → c.channel q p ≡ x → Shows name first count (net_front w p q able (erased_parcels name (parcels x))) (seen_front v p q able (parcels x))
   unfolding seen_parcels
@@ -69,26 +109,25 @@ module _ (n first : ℕ) (steps : List ProtocolStep) (name : ℕ → InstName) (
   shows_front p q able (Ask k i ∷ rest) e =
       let f = ask_facts (once_closed c) q p k i rest e (known_run n steps).invariant in
       shows_done name first (with_rest w q p (erased_parcels name (parcels rest))) p count _ _
-      (done_ask name first (with_rest w q p (erased_parcels name (parcels rest))) p count (w.nodes p) (seen_without_front v p q (parcels rest)) (takes p q rest) (low p) q able k _ (t.label i) f.3 f.4)
+      (done_ask name first (with_rest w q p (erased_parcels name (parcels rest))) p count (asking (w.nodes p) q (name k)) (seen_without_front v p q (parcels rest))
+      (done_heard name first (with_rest w q p (erased_parcels name (parcels rest))) p count (w.nodes p) (seen_without_front v p q (parcels rest)) (asking (w.nodes p) q (name k)).asks (w.nodes p).answered (takes p q rest)) (low p) q able k _ (t.label i) f.3 f.4)
   shows_front p q able (Reply k b ∷ rest) e =
-      let g = (known_run n steps).invariant in
-      let f = reply_facts (once_closed c) q p k b rest e g in
-      let pos = (g.positions.joined_instance k p f.1).0 in
+      let f = reply_due p q k b rest e in
       shows_done name first (with_rest w q p (erased_parcels name (parcels rest))) p count _ _
-      (done_reply name first (with_rest w q p (erased_parcels name (parcels rest))) p count (w.nodes p) (seen_without_front v p q (parcels rest)) (takes p q rest) (low p) q able k b pos (g.positions.member_open k p f.1 f.2))
+      (done_reply name first (with_rest w q p (erased_parcels name (parcels rest))) p count (w.nodes p) (seen_without_front v p q (parcels rest)) (takes p q rest) (low p) q able k b f.0 f.1.0 f.1.1.0 f.1.1.1)
   shows_front p q able (Decide k b ∷ rest) e =
       let g = (known_run n steps).invariant in
       let f = decide_facts (once_closed c) q p k b rest e g in
       let pos = g.positions.decided_instance k f.0 in
       shows_done name first (with_rest w q p (erased_parcels name (parcels rest))) p count _ _
-      (done_decision name first (with_rest w q p (erased_parcels name (parcels rest))) p count (w.nodes p) (seen_without_front v p q (parcels rest)) (takes p q rest) (low p) q able k b pos.0 pos.1)
+      (done_decision name first (with_rest w q p (erased_parcels name (parcels rest))) p count (w.nodes p) (seen_without_front v p q (parcels rest)) (takes p q rest) (low p) q able k b pos.0 pos.1 (decision_due p q k b rest e))
 
   -- what is held
   pub without_held : (p q : ℕ) (rest : List Parcel) → IsDone name first w p count (nothing (record (w.nodes p) { held = at_one q (erased_parcels name (parcels rest)) (w.nodes p).held })) (record v { held = changes.with_rest v.held q p (parcels rest) })
   without_held p q rest = subst (λ (x : NodeState). IsDone name first w p count (nothing (record (w.nodes p) { held = at_one q (erased_parcels name (parcels rest)) x.held })) (record v { held = changes.with_rest v.held q p (parcels rest) })) (sym (s.nodes p))
-      (done_lists name first w p count (nothing (w.nodes p)) (nothing (record (w.nodes p) { held = at_one q (erased_parcels name (parcels rest)) (node_of name first count v p).held })) v v.channel (changes.with_rest v.held q p (parcels rest)) v.kept v.log (begins p)
-      (ap (λ (x : NodeState). record x { held = at_one q (erased_parcels name (parcels rest)) (node_of name first count v p).held }) (s.nodes p)
-      ∙ (λ i. record (node_of name first count v p) { held = λ u. rest_for name v.held q p (parcels rest) u i }))
+      (done_lists name first w p count (nothing (w.nodes p)) (nothing (record (w.nodes p) { held = at_one q (erased_parcels name (parcels rest)) (node_of name first count v p (w.nodes p)).held })) v v.channel (changes.with_rest v.held q p (parcels rest)) v.kept v.log (begins p)
+      (ap (λ (x : NodeState). record x { held = at_one q (erased_parcels name (parcels rest)) (node_of name first count v p (w.nodes p)).held }) (s.nodes p)
+      ∙ (λ i. record (node_of name first count v p (w.nodes p)) { held = λ u. rest_for name v.held q p (parcels rest) u i }))
       (λ u t o. rest_other v.held q p (parcels rest) u t o) (λ u t o. refl) (begins p).puts (λ u t o. refl) (begins p).told)
 
   -- a take by the lists that it is of

@@ -1,5 +1,5 @@
 -- Parcels that a node takes, by names.
-use Rattle.std.proofs.Common.{◌≡◌, ◌∙◌, ℕ, ℤ, ◌≤◌, Bool, true, false, not, Option, Some, None, [], ◌∷◌, ◌++◌, length, refl, sym, ap, subst, arith}
+use Rattle.std.proofs.Common.{◌≡◌, ◌∙◌, ℕ, ℤ, ◌≤◌, Bool, true, false, not, Option, Some, None, [], ◌∷◌, ◌++◌, length, refl, sym, ap, ap₂, subst, arith}
 use Rattle.std.specs.Prelude.{◌==◌, ◌&&◌, if◌then◌else◌, is_some}
 use Rattle.std.proofs.lemmas.Bool.Decides.{nat_tests}
 use Rattle.kt_base.specs.declared.words.Cause.TheVariants.{Busy}
@@ -24,11 +24,11 @@ use Rattle.kt_node.specs.declared.parcels.NodeParcel.TheVariants as put
 use Rattle.kt_node.specs.Nodes.{NodeState, Doing, nothing, is_in_rollback}
 use Rattle.kt_node.specs.NodeMessages.{unable}
 use Rattle.kt_node.specs.NodeJoining.{replying, unwilling, noting}
-use Rattle.kt_node.specs.NodeSteps.{is_one, is_in, asked_outside, asked, taking}
+use Rattle.kt_node.specs.NodeSteps.{is_one, is_in, asked_outside, asked, awaits, heeds, counting, taking}
 use Rattle.kt_node.specs.Nets.{Net}
 use Rattle.kt_node.proofs.Naming.{one_test}
 use Rattle.kt_node.proofs.Told.{given}
-use Rattle.kt_node.proofs.Done.{IsDone}
+use Rattle.kt_node.proofs.Done.{IsDone, done_heard}
 use Rattle.kt_node.proofs.MessageRules.{done_arriving, done_holding, done_replying, done_unwilling, choose, cause_unable, cause_busy}
 use Rattle.kt_node.proofs.JoiningRules.{done_part, done_noting, done_joining_checkpoint, done_joining_rollback}
 use Rattle.kt_node.proofs.ClosingRules.{done_closing, done_settling}
@@ -115,28 +115,43 @@ module _ (name : ℕ → InstName) (first : ℕ) (w : Net) (p : ℕ) (count : �
           same : is_one (name (v.states p).inst) (name k) ≡ ((v.states p).inst == k)
           same = ap (λ (b : Bool). is_in (if b then None else Some (name (v.states p).inst)) (name k)) (sym e) ∙ (sym (ap (λ (x : NodeState). is_in x.inst (name k)) h.state) ∙ in_test k low high)
 
-  -- a decision
-  pub done_decision : (q : ℕ) (able : Bool) (k : ℕ) (c : Bool) → 1 ≤ k → k ≤ v.begun → IsDone name first w p count (taking y q able (put.Decide (name k) c)) (if (v.states p).inst == k then seen_closing v p k c else v)
-  done_decision q able k c low high = choose name first w p count y v h (is_in y.inst (name k)) ((v.states p).inst == k) _ _ _ _ (in_test k low high) (done_closing name first w p count (nothing y) v k low high h c) h
+  -- a decision of who asked p to join k
+  pub heed_test : (q k : ℕ) → 1 ≤ k → k ≤ v.begun → is_in (y.asks q) (name k) ≡ true → heeds y q (name k) ≡ ((v.states p).inst == k)
+  heed_test q k low high a = ap (λ (b : Bool). is_in y.inst (name k) && b) a ∙ (and_true (is_in y.inst (name k)) ∙ in_test k low high)
+    where
+      and_true : (b : Bool) → (b && true) ≡ b
+      and_true true = refl
+      and_true false = refl
 
-  -- a reply, which is one that p's instance awaits where p awaits any
-  pub done_reply : (q : ℕ) (able : Bool) (k : ℕ) (b : Bool) → 1 ≤ k → (v.states p).inst ≡ k → IsDone name first w p count (taking y q able (put.Reply (name k) b))
+  pub done_decision : (q : ℕ) (able : Bool) (k : ℕ) (c : Bool) → 1 ≤ k → k ≤ v.begun → is_in (y.asks q) (name k) ≡ true → IsDone name first w p count (taking y q able (put.Decide (name k) c)) (if (v.states p).inst == k then seen_closing v p k c else v)
+  done_decision q able k c low high a = choose name first w p count y v h (heeds y q (name k)) ((v.states p).inst == k) _ _ _ _ (heed_test q k low high a) (done_closing name first w p count (nothing y) v k low high h c) h
+
+  -- a reply of who was asked and has not replied, which is one that p's instance awaits where p awaits any
+  pub await_test : (q k : ℕ) → 1 ≤ k → (v.states p).inst ≡ k → (v.states p).part.asked q ≡ true → y.answered q ≡ false → awaits y q (name k) ≡ not ((v.states p).part.awaited == 0)
+  await_test q k low o asked fresh =
+      ap (λ (x : Bool). (x && not (y.part.awaited == 0)) && (y.part.asked q && not (y.answered q))) (in_test k low (subst (λ (x : ℕ). x ≤ v.begun) o within) ∙ same_number (v.states p).inst k o)
+      ∙ (ap (λ (x : NodeState). (true && not (x.part.awaited == 0)) && (x.part.asked q && not (y.answered q))) h.state
+      ∙ (ap₂ (λ (a b : Bool). not ((v.states p).part.awaited == 0) && (a && not b)) asked fresh ∙ and_true (not ((v.states p).part.awaited == 0))))
+    where
+      same_number : (n m : ℕ) → n ≡ m → (n == m) ≡ true
+      same_number n m e = grind (arith, nat_tests, e)
+
+      and_true : (b : Bool) → (b && true) ≡ b
+      and_true true = refl
+      and_true false = refl
+
+  pub done_reply : (q : ℕ) (able : Bool) (k : ℕ) (b : Bool) → 1 ≤ k → (v.states p).inst ≡ k → (v.states p).part.asked q ≡ true → y.answered q ≡ false → IsDone name first w p count (taking y q able (put.Reply (name k) b))
       (if (v.states p).part.awaited == 0 then v else seen_settling (record v { states = at_one p (record (v.states p) { part = part_after_reply (v.states p).part b }) v.states }) p k)
-  done_reply q able k b low o = swap (is_in y.inst (name k) && not (y.part.awaited == 0)) ((v.states p).part.awaited == 0) test
+  done_reply q able k b low o asked fresh = swap (awaits y q (name k)) ((v.states p).part.awaited == 0) (await_test q k low o asked fresh)
       (done_settling name first w p count _ _ k low high replied) h
     where
       high : k ≤ v.begun
       high = subst (λ (x : ℕ). x ≤ v.begun) o within
 
-      replied : IsDone name first w p count (nothing (record y { part = part_after_reply y.part b })) (record v { states = at_one p (record (v.states p) { part = part_after_reply (v.states p).part b }) v.states })
-      replied = subst (λ (x : NodeState). IsDone name first w p count (nothing (record y { part = part_after_reply x.part b })) (record v { states = at_one p (record (v.states p) { part = part_after_reply (v.states p).part b }) v.states })) (sym h.state)
-          (done_part name first w p count y v (part_after_reply (v.states p).part b) h)
-
-      same_number : (n m : ℕ) → n ≡ m → (n == m) ≡ true
-      same_number n m e = grind (arith, nat_tests, e)
-
-      test : (is_in y.inst (name k) && not (y.part.awaited == 0)) ≡ not ((v.states p).part.awaited == 0)
-      test = ap (λ (x : Bool). x && not (y.part.awaited == 0)) (in_test k low high ∙ same_number (v.states p).inst k o) ∙ ap (λ (x : NodeState). not (x.part.awaited == 0)) h.state
+      replied : IsDone name first w p count (nothing (counting y q b)) (record v { states = at_one p (record (v.states p) { part = part_after_reply (v.states p).part b }) v.states })
+      replied = done_heard name first w p count (record y { part = part_after_reply y.part b }) (record v { states = at_one p (record (v.states p) { part = part_after_reply (v.states p).part b }) v.states }) y.asks (at_one q true y.answered)
+          (subst (λ (x : NodeState). IsDone name first w p count (nothing (record y { part = part_after_reply x.part b })) (record v { states = at_one p (record (v.states p) { part = part_after_reply (v.states p).part b }) v.states })) (sym h.state)
+          (done_part name first w p count y v (part_after_reply (v.states p).part b) h))
 
       swap : (a c : Bool) {d e : Doing} {x z : Seen} → a ≡ not c → IsDone name first w p count d x → IsDone name first w p count e z → IsDone name first w p count (if a then d else e) (if c then z else x)
       swap true false r f g = f

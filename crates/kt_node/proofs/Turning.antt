@@ -1,5 +1,5 @@
 -- What comes to a node at a step, and what it makes of it.
-use Rattle.std.proofs.Common.{◌≡◌, ◌∙◌, ℕ, ◌+◌, Bool, true, false, Some, List, ◌∷◌, max, refl, sym, ap, ap₂, subst, arith, inl, inr}
+use Rattle.std.proofs.Common.{◌≡◌, ◌∙◌, ℕ, ◌+◌, Bool, true, false, Some, List, ◌∷◌, max, sym, ap, ap₂, subst, arith, inl, inr}
 use Rattle.std.specs.Prelude.{◌==◌, ◌&&◌, not, if◌then◌else◌, Option, Result, Ok, Err, IsErr, IsErrAnd, slice_index_or}
 use Rattle.std.specs.List.{remove}
 use Rattle.std.proofs.lemmas.Bool.{cases_eq}
@@ -10,15 +10,13 @@ use Rattle.kt_node.specs.Nodes.{NodeState, Input, Held, Comes, is_in_rollback}
 use Rattle.kt_node.specs.Nets.{has_some}
 use Rattle.kt_node.specs.Clocks.{Envelope, envelope, source_of, front_input, input_at, clock_after, left_after}
 use Rattle.kt_node.specs.declared.cluster.OnWay.{OnWay}
-use Rattle.kt_node.specs.declared.faults.ManagerFault.{ManagerFault}
 use Rattle.kt_node.specs.declared.node.NodeFault.{NodeFault}
-use Rattle.kt_node.specs.declared.node.NodeFault.TheVariants as fault
 use Rattle.kt_node.specs.declared.node.Output.{Output}
 use Rattle.kt_node.specs.declared.cluster.ClusterFault.{ClusterFault}
 use Rattle.kt_node.specs.declared.cluster.ClusterFault.TheVariants as cluster
 use Rattle.kt_node.specs.Clusters.{link, fault_coming, IsFront, IsRefusedIn, IsTurn}
 use Rattle.kt_node.specs.Faults.{fault_at}
-use Rattle.kt_node.specs.Links.{NodeLinks, IsStep, IsNodeRefusedAs, IsParcelRefusedAs}
+use Rattle.kt_node.specs.Links.{NodeLinks, IsStep, IsNodeRefusedAs}
 use Rattle.kt_node.proofs.OnWay.{both_same, nobody, front_comes, front_left}
 
 -- nothing is taken of a link
@@ -68,16 +66,10 @@ front_turn old new before after y p q place able x out f e t is s =
       left = λ u v. ap (λ (l : List OnWay). link l u v) is ∙ front_left before q p place x f e u v;
     }
 
--- a parcel that is the next one of its sender is refused as any other input
-pub refused_front : (o : Option ManagerFault) (f : NodeFault) → IsParcelRefusedAs o (Err f) → ((n : ℕ) → f ≡ fault.Gap n → ⊥) → IsNodeRefusedAs o (Err f)
-refused_front o (fault.Gap n) h g = g n refl
-refused_front o fault.ClockSpent h g = tt
-refused_front o (fault.Manager f) h g = h
-
 -- so a step of a cluster is refused that takes the front of a link
 pub refused_taken : {X : Type 0} (y : NodeState) (o : Option Input) (came : Input) (f : NodeFault) (r : Result X ClusterFault) → o ≡ Some came → IsErr r × IsErrAnd r (λ (g : ClusterFault). g ≡ cluster.Node f)
-    → IsParcelRefusedAs (fault_at y came) (Err f) → ((n : ℕ) → f ≡ fault.Gap n → ⊥) → IsRefusedIn y o r
-refused_taken y o came f (Ok out) e s p g = absurd (cc s.0)
-refused_taken {X = X} y o came f (Err k) e s p g =
+    → IsNodeRefusedAs (fault_at y came) (Err f) → IsRefusedIn y o r
+refused_taken y o came f (Ok out) e s p = absurd (cc s.0)
+refused_taken {X = X} y o came f (Err k) e s p =
     subst (λ (h : ClusterFault). IsRefusedIn {X = X} y o (Err h)) (sym s.1)
-    (subst (λ (i : Option Input). IsNodeRefusedAs (fault_coming y i) (Err f)) (sym e) (refused_front (fault_at y came) f p g))
+    (subst (λ (i : Option Input). IsNodeRefusedAs (fault_coming y i) (Err f)) (sym e) p)

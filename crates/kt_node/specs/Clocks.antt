@@ -1,5 +1,5 @@
 -- Nets with clocks: when each node steps, and what carries it.
-use Rattle.std.specs.Prelude.{ℕ, ◌+◌, ◌<◌, ◌≤◌, ◌≡◌, ◌⊎◌, ◌==◌, ◌&&◌, not, max, if◌then◌else◌, Bool, Option, Some, None, List, [], ◌∷◌, ◌++◌, map, filter, drop}
+use Rattle.std.specs.Prelude.{ℕ, ◌+◌, ◌<◌, ◌≤◌, ◌≡◌, ◌⊎◌, ◌==◌, ◌&&◌, not, max, if◌then◌else◌, Bool, Option, Some, None, List, [], ◌∷◌, ◌++◌, map, drop}
 use Rattle.kt_meaning.specs.Past.{at_one}
 use Rattle.kt_protocol.specs.States.{ProtocolStep, Send, Begin, Fail, Take}
 use Rattle.kt_machine.specs.Acts.{stepper}
@@ -8,7 +8,6 @@ use Rattle.kt_spacetime.specs.declared.named_rows.NamedEvent.{NamedEvent}
 use Rattle.kt_meaning.specs.Names.{row_of}
 use Rattle.kt_node.specs.declared.parcels.NodeParcel.{NodeParcel}
 use Rattle.kt_spacetime.specs.declared.named_rows.ClockedRow.{ClockedRow}
-use Rattle.kt_spacetime.specs.ClockedRows.{rows_of}
 use Rattle.kt_node.specs.Nodes.{NodeState, Input, is_in_rollback}
 use Rattle.kt_node.specs.Nodes as input
 use Rattle.kt_node.specs.NodeSteps.{is_step, node_after}

@@ -1,5 +1,5 @@
 -- What names leave of a state of kt_machine's machine: what nets keep, and no numbers of instances and messages.
-use Rattle.std.specs.Prelude.{ℕ, ◌-◌, ◌==◌, if◌then◌else◌, Option, Some, None, unwrap_or, List, length, map}
+use Rattle.std.specs.Prelude.{ℕ, ◌-◌, ◌==◌, if◌then◌else◌, Bool, Option, Some, None, unwrap_or, List, length, map}
 use Rattle.kt_fifo.specs.declared.parcels.Parcel.{Parcel}
 use Rattle.kt_fifo.specs.declared.parcels.Parcel.TheVariants as in_code
 use Rattle.kt_spacetime.specs.declared.event.Event.{Event}
@@ -35,10 +35,10 @@ erased_parcels name xs = map (erased_parcel name) xs
 abbrev pub erased_inst : (ℕ → InstName) → ℕ → Option InstName
 erased_inst name k = if k == 0 then None else Some (name k)
 
--- a process by these names: how many there are, which one it is, how many instances it began, what code keeps of it, and by
--- sender what is held and kept for it
-abbrev pub erased_process : (ℕ → InstName) → ℕ → ℕ → ℕ → SeenProcess → (ℕ → List Parcel) → (ℕ → List Parcel) → NodeState
-erased_process name processes me begun y held kept = record {
+-- a process by these names: how many there are, which one it is, how many instances it began, what code keeps of it, by
+-- sender what is held and kept for it and, which the machine does not keep, what it was asked last and who has replied
+abbrev pub erased_process : (ℕ → InstName) → ℕ → ℕ → ℕ → SeenProcess → (ℕ → List Parcel) → (ℕ → List Parcel) → (ℕ → Option InstName) → (ℕ → Bool) → NodeState
+erased_process name processes me begun y held kept asks answered = record {
   processes = processes;
   me = me;
   calls = y.calls;
@@ -49,10 +49,12 @@ erased_process name processes me begun y held kept = record {
   up = y.up;
   held = λ q. erased_parcels name (held q);
   kept = λ q. erased_parcels name (kept q);
+  asks = asks;
+  answered = answered;
 }
 
-abbrev pub erased_node : (ℕ → InstName) → Seen → ℕ → NodeState
-erased_node name v p = erased_process name v.processes p (begun_by p v.log) (v.states p) (λ q. v.held q p) (λ q. v.kept q p)
+abbrev pub erased_node : (ℕ → InstName) → Seen → ℕ → (ℕ → Option InstName) → (ℕ → Bool) → NodeState
+erased_node name v p asks answered = erased_process name v.processes p (begun_by p v.log) (v.states p) (λ q. v.held q p) (λ q. v.kept q p) asks answered
 
 -- a row where labels count on from 0, which was told where they count on from another one
 abbrev pub event_from : ℕ → NamedEvent → NamedEvent

@@ -3,6 +3,7 @@ use Rattle.std.specs.Prelude.{◌≡◌, ℕ, ◌==◌, ◌&&◌, ◌-◌, ◌^�
 use Rattle.kt_node.specs.declared.parcels.NodeParcel.{NodeParcel}
 use Rattle.kt_node.specs.declared.parcels.NodeParcel.TheVariants.{App, Ask, Reply, Decide}
 use Rattle.kt_node.specs.Nodes.{NodeState, Input, Send, Begin, Fail, Held, Comes, is_in_rollback}
+use Rattle.kt_node.specs.NodeSteps.{is_begun}
 use Rattle.kt_node.specs.Nets.{has_some}
 use Rattle.kt_node.specs.declared.faults.ManagerFault.{ManagerFault}
 use Rattle.kt_node.specs.declared.faults.ManagerFault.TheVariants as fault
@@ -31,13 +32,20 @@ abbrev pub first_held : List NodeParcel → Option ManagerFault
 first_held [] = Some fault.HoldsNone
 first_held (x ∷ rest) = held_fault x
 
+-- an ask names an instance that has begun
+abbrev pub parcel_fault : NodeState → NodeParcel → Option ManagerFault
+parcel_fault y (Ask k kind label) = if is_begun y k then None else Some fault.NotBegun
+parcel_fault y (App label body) = None
+parcel_fault y (Reply k w) = None
+parcel_fault y (Decide k c) = None
+
 -- why it does not take an input, where memory is no reason
 abbrev pub fault_at : NodeState → Input → Option ManagerFault
 fault_at y (Send q body) = or_else (stranger y q) (send_fault y)
 fault_at y (Begin roll able) = if nat_le (2 ^ 48 - 1) y.begun then Some fault.CountsSpent else None
 fault_at y Fail = None
 fault_at y (Held q) = or_else (stranger y q) (if is_in_rollback y then Some fault.HoldsNone else first_held (y.held q))
-fault_at y (Comes q able x) = or_else (stranger y q) (if not (is_in_rollback y) && has_some (y.held q) then Some fault.HeldFirst else None)
+fault_at y (Comes q able x) = or_else (stranger y q) (if not (is_in_rollback y) && has_some (y.held q) then Some fault.HeldFirst else parcel_fault y x)
 
 -- a fault, unless it is want of memory
 abbrev pub but_memory : ManagerFault → Option ManagerFault

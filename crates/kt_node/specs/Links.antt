@@ -1,8 +1,11 @@
 -- A manager whose parcels have numbers and whose steps have clocks, and which knows how far its messages go.
-use Rattle.std.specs.Prelude.{◌≡◌, ◌+◌, ◌-◌, ◌^◌, ◌<◌, ◌≤◌, ℕ, max, Option, None, Result, Ok, Err, List, length, slice_index}
+use Rattle.std.specs.Prelude.{◌≡◌, ◌+◌, ◌-◌, ◌^◌, ◌<◌, ◌≤◌, ℕ, max, Bool, true, false, Option, None, Result, Ok, Err, List, length, slice_index}
 use Rattle.kt_meaning.specs.Past.{at_one}
+use Rattle.kt_tables.specs.Calls.{Speaks}
 use Rattle.kt_node.specs.Nodes.{NodeState, Input}
-use Rattle.kt_node.specs.NodeSteps.{node_after}
+use Rattle.kt_node.specs.NodeSteps.{node_after, taking}
+use Rattle.kt_node.specs.declared.parcels.NodeParcel.{NodeParcel}
+use Rattle.kt_node.specs.declared.parcels.NodeParcel.TheVariants.{App, Ask, Reply, Decide}
 use Rattle.kt_node.specs.declared.node.Output.{Output}
 use Rattle.kt_node.specs.declared.node.Taken.{Taken}
 use Rattle.kt_node.specs.declared.node.Taken.TheVariants.{Step, Again}
@@ -37,6 +40,7 @@ pub record AreCounted (w : NodeLinks) : Type 0 where
 -- a step at an input, with the clock that follows its own and that of what came: its parcels have the next numbers
 pub record IsStep (old new : NodeLinks) (came : ℕ) (y : NodeState) (x : Input) (out : Output) : Type 0 where
   pub done : IsDone new.manager out.effects (node_after y x)
+  pub sender : out.from ≡ new.manager.me
   pub clock : new.clock ≡ max old.clock came + 1
   pub told : out.clock ≡ new.clock
   pub sent : (q : ℕ) → q < 64 → slice_index new.sent q ≡ slice_index old.sent q + length ((node_after y x).puts q)
@@ -61,16 +65,50 @@ abbrev pub IsUntaken : Taken → (Output → Type 0) → Type 0
 IsUntaken (Step out) P = P out
 IsUntaken Again P = Unit {0}
 
--- a call is refused exactly so, but for the clock and memory
+-- where a message comes, tables answer for the calls after it
+abbrev pub IsSpoken : NodeState → ℕ → Bool → NodeParcel → Type 0
+IsSpoken y q able (App label body) = Speaks ((taking y q able (App label body)).state.calls)
+IsSpoken y q able (Ask k kind label) = Unit {0}
+IsSpoken y q able (Reply k w) = Unit {0}
+IsSpoken y q able (Decide k c) = Unit {0}
+
+-- what comes is given to the manager: it makes a step, or the manager or the clock refuses it
+abbrev pub IsGiven : {X : Type 0} → Result X NodeFault → Type 0
+IsGiven (Ok made) = Unit {0}
+IsGiven (Err (fault.Manager f)) = Unit {0}
+IsGiven (Err fault.ClockSpent) = Unit {0}
+IsGiven (Err fault.Astray) = ⊥
+IsGiven (Err (fault.Gap n)) = ⊥
+IsGiven (Err fault.Leap) = ⊥
+IsGiven (Err fault.Stale) = ⊥
+
+-- a parcel is the next one, and given to the manager; or it came before; or it is refused so
+abbrev pub IsMetAs : Result Bool NodeFault → Result Taken NodeFault → Type 0
+IsMetAs (Ok true) result = IsGiven result × (result ≡ Ok Again → ⊥)
+IsMetAs (Ok false) result = result ≡ Ok Again
+IsMetAs (Err f) result = result ≡ Err f
+
+-- a message that is held is refused where it is stale, and else given to the manager
+abbrev pub IsHeldMetAs : Bool → Result Output NodeFault → Type 0
+IsHeldMetAs true result = result ≡ Err fault.Stale
+IsHeldMetAs false result = IsGiven result
+
+-- a call that is given to the manager is refused exactly so, but for the clock and memory
 abbrev pub IsNodeRefusedAs : Option ManagerFault → Result Output NodeFault → Type 0
 IsNodeRefusedAs o (Ok out) = o ≡ None
 IsNodeRefusedAs o (Err (fault.Manager f)) = o ≡ but_memory f
 IsNodeRefusedAs o (Err fault.ClockSpent) = Unit {0}
+IsNodeRefusedAs o (Err fault.Astray) = ⊥
 IsNodeRefusedAs o (Err (fault.Gap n)) = ⊥
+IsNodeRefusedAs o (Err fault.Leap) = ⊥
+IsNodeRefusedAs o (Err fault.Stale) = ⊥
 
 abbrev pub IsParcelRefusedAs : Option ManagerFault → Result Taken NodeFault → Type 0
 IsParcelRefusedAs o (Ok (Step out)) = o ≡ None
 IsParcelRefusedAs o (Ok Again) = Unit {0}
 IsParcelRefusedAs o (Err (fault.Manager f)) = o ≡ but_memory f
 IsParcelRefusedAs o (Err fault.ClockSpent) = Unit {0}
+IsParcelRefusedAs o (Err fault.Astray) = Unit {0}
 IsParcelRefusedAs o (Err (fault.Gap n)) = Unit {0}
+IsParcelRefusedAs o (Err fault.Leap) = Unit {0}
+IsParcelRefusedAs o (Err fault.Stale) = Unit {0}

@@ -12,4 +12,6 @@ state_of x = record {
   begun = x.begun;
   held = x.held;
   kept = x.kept;
+  asks = x.asks;
+  answered = x.answered;
 }

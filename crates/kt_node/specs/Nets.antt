@@ -80,6 +80,8 @@ opening_net n first = record {
     up = true;
     held = λ q. [];
     kept = λ q. [];
+    asks = λ q. None;
+    answered = λ q. false;
   };
   channel = λ p q. [];
   rows = [];

@@ -1,5 +1,5 @@
 -- What a node does at each input.
-use Rattle.std.specs.Prelude.{ℕ, ◌==◌, ◌&&◌, not, nat_lt, if◌then◌else◌, Bool, true, false, Option, Some, None, is_none}
+use Rattle.std.specs.Prelude.{ℕ, ◌==◌, ◌&&◌, ◌||◌, not, nat_lt, if◌then◌else◌, Bool, true, false, Option, Some, None, is_none}
 use Rattle.kt_base.specs.declared.words.Verb.TheVariants as verb
 use Rattle.kt_meaning.specs.Past.{at_one, is_rollback_kind}
 use Rattle.kt_protocol.specs.Steps.{verb_for}
@@ -12,7 +12,7 @@ use Rattle.kt_node.specs.declared.parcels.NodeParcel.{NodeParcel}
 use Rattle.kt_node.specs.declared.parcels.NodeParcel.TheVariants.{App, Ask, Reply, Decide}
 use Rattle.kt_node.specs.Nodes.{NodeState, Input, Send, Begin, Fail, Held, Comes, Doing, nothing, is_in_rollback}
 use Rattle.kt_node.specs.NodeMessages.{sending, arriving, holding, taking_held, failing, refusing, unable}
-use Rattle.kt_node.specs.NodeJoining.{next_name, beginning, joining_checkpoint, joining_rollback, replying, unwilling, noting}
+use Rattle.kt_node.specs.NodeJoining.{next_name, beginning, joining_checkpoint, joining_rollback, replying, unwilling, noting, asking}
 use Rattle.kt_node.specs.NodeClosing.{closing, settling}
 
 -- whether a name is that of another instance too
@@ -23,6 +23,11 @@ is_one a b = (a.initiator == b.initiator) && (a.count == b.count)
 abbrev pub is_in : Option InstName → InstName → Bool
 is_in None k = false
 is_in (Some name) k = is_one name k
+
+-- whether an instance may have begun: at a process that there is and, where this is the node's own, it is in the instance
+-- while others are asked
+abbrev pub is_begun : NodeState → InstName → Bool
+is_begun y k = nat_lt k.initiator y.processes && (not (k.initiator == y.me) || is_in y.inst k)
 
 -- it begins an instance and is its first member
 abbrev pub starting : NodeState → Bool → Doing
@@ -52,12 +57,24 @@ abbrev pub asked : Option InstName → NodeState → ℕ → Bool → InstName �
 asked (Some name) y q able k roll label = asked_inside name y q k roll label
 asked None y q able k roll label = asked_outside y q able k roll label
 
--- a parcel of q: only a reply that it awaits and the decision of its own instance change anything
+-- it is in k, which awaits replies still, and of q one: it asked q, which has not replied
+abbrev pub awaits : NodeState → ℕ → InstName → Bool
+awaits y q k = (is_in y.inst k && not (y.part.awaited == 0)) && (y.part.asked q && not (y.answered q))
+
+-- it is in k, and this is what q asked it last to join
+abbrev pub heeds : NodeState → ℕ → InstName → Bool
+heeds y q k = is_in y.inst k && is_in (y.asks q) k
+
+-- q has replied
+abbrev pub counting : NodeState → ℕ → Bool → NodeState
+counting y q willing = record y { part = part_after_reply y.part willing; answered = at_one q true y.answered }
+
+-- a parcel of q: a reply counts only where it is awaited of q, and a decision only where q asked to join its instance
 abbrev pub taking : NodeState → ℕ → Bool → NodeParcel → Doing
 taking y q able (App label body) = if is_in_rollback y then holding y q (App label body) else arriving y q label body
-taking y q able (Ask k kind label) = asked y.inst y q able k (is_rollback_kind (Some kind)) label
-taking y q able (Reply k w) = if is_in y.inst k && not (y.part.awaited == 0) then settling k (nothing (record y { part = part_after_reply y.part w })) else nothing y
-taking y q able (Decide k c) = if is_in y.inst k then closing k c (nothing y) else nothing y
+taking y q able (Ask k kind label) = asked y.inst (asking y q k) q able k (is_rollback_kind (Some kind)) label
+taking y q able (Reply k w) = if awaits y q k then settling k (nothing (counting y q w)) else nothing y
+taking y q able (Decide k c) = if heeds y q k then closing k c (nothing y) else nothing y
 
 -- whether an input is a step: a send waits while its node is in an instance
 abbrev pub is_step : NodeState → Input → Bool

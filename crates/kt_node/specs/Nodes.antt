@@ -27,6 +27,9 @@ pub record NodeState : Type 0 where
   -- by sender: what it holds while it is in a rollback, and what it received past its permanent checkpoint
   pub held : NodeLists
   pub kept : NodeLists
+  -- by process: the instance that its last ask named, and whether it has replied in the instance at hand
+  pub asks : ℕ → Option InstName
+  pub answered : ℕ → Bool
 
 -- a command to send a message with this body to a process; to begin an instance, a rollback or not; a failure of its
 -- object; the first message that it holds of a process; a parcel of a process. A Boolean after a command or a process says

@@ -1,5 +1,5 @@
 -- What a manager does by what its process answers.
-use Rattle.std.specs.Prelude.{◌≡◌, ◌==◌, ℕ, if◌then◌else◌, Bool, true, Option, Some, None, List, [], ◌∷◌, ◌++◌, length}
+use Rattle.std.specs.Prelude.{◌≡◌, ℕ, if◌then◌else◌, Bool, true, Option, Some, None, List, [], ◌∷◌, ◌++◌, length}
 use Rattle.kt_base.specs.declared.words.Cause.{Cause}
 use Rattle.kt_base.specs.declared.words.Cause.TheVariants as cause
 use Rattle.kt_base.specs.declared.words.Kind.{Kind}
@@ -17,7 +17,6 @@ use Rattle.kt_spacetime.specs.declared.named_rows.NamedCause.TheVariants.{Busy, 
 use Rattle.kt_spacetime.specs.declared.named_rows.NamedEvent.{NamedEvent}
 use Rattle.kt_spacetime.specs.declared.named_rows.NamedEvent.TheVariants.{Took, Ready, Unwilling, Decided}
 use Rattle.kt_node.specs.declared.parcels.NodeParcel.TheVariants as put
-use Rattle.kt_machine.specs.SeenReplies.{part_after_reply}
 use Rattle.kt_node.specs.Nodes.{NodeState, Doing, nothing, putting, with_one}
 use Rattle.kt_node.specs.NodeClosing.{closing}
 use Rattle.kt_node.specs.NodeSteps.{is_in}
@@ -78,10 +77,6 @@ joined_in k kind label rows y = record {
 abbrev pub heard_in : Kind → ℕ → InstName → ℕ → NodeState → NodeState
 heard_in Checkpoint q k label y = y
 heard_in Rollback q k label y = if is_in y.inst k then record y { part = part_after_ask y.part q label } else y
-
--- a node after a reply that it may await
-abbrev pub counted_in : Bool → NodeState → NodeState
-counted_in willing y = if y.part.awaited == 0 then y else record y { part = part_after_reply y.part willing }
 
 -- what follows from a reply: its own one, or the decision
 abbrev pub gone_on : InstName → NodeState → Action → Doing

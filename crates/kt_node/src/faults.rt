@@ -18,6 +18,9 @@ pub enum ManagerFault {
     /// A send waits while the manager is in an open instance.
     #[error("waits")]
     Waits,
+    /// An ask names an instance that its initiator is not in: this is no process, or the manager's own, which is not in it.
+    #[error("not begun")]
+    NotBegun,
     /// A message of this sender is held, and comes first.
     #[error("held first")]
     HeldFirst,

@@ -9,7 +9,8 @@
 //! **What to change where:** what a manager holds `manager.rt`; messages and failures `manager/messages.rt`; beginning,
 //! joining and closing `manager/instances.rt`; any parcel `manager/parcels.rt`; what a step needs of the object
 //! `manager/looks.rt`, `inputs.rt`, `specs/Looks`; what a step puts out `effects.rt`; when a call is refused `faults.rt`,
-//! `specs/Faults`; numbers and clocks `node.rt`, `specs/Links`; what its permanent checkpoint has `reach.rt`,
+//! `specs/Faults`; numbers and clocks `node.rt`, `specs/Links`; which
+//! parcels are met `meeting.rt`, `specs/Meetings`; what its permanent checkpoint has `reach.rt`,
 //! `specs/Reaches`; nodes with links in one program `cluster.rt`, one step of theirs `cluster/turns.rt`, which net they are
 //! `specs/Clusters`; laws `laws.rt`. What a node is by definition: what it has `specs/Nodes`; its rules
 //! `specs/NodeMessages`, `specs/NodeJoining`, `specs/NodeClosing`, `specs/NodeSteps`; what a step needs of its object
@@ -23,6 +24,7 @@ mod faults;
 mod inputs;
 mod laws;
 mod manager;
+mod meeting;
 mod node;
 mod parcels;
 mod reach;
@@ -33,8 +35,9 @@ pub use effects::{Effects, Parcels};
 pub use faults::ManagerFault;
 pub use inputs::Input;
 pub use laws::{
-    acts_of_nets, calls_of_nodes, logs_of_nets, looks_of_nodes, merges_of_nets, nets_are_runs,
-    order_of_nets, permanent_checkpoints,
+    acts_of_nets, calls_of_nodes, forged_parcels, logs_of_nets, looks_of_nodes,
+    meetings_of_parcels, merges_of_nets, nets_are_runs, nodes_of_numbered_nets,
+    numbered_nets_are_nets, order_of_nets, own_parts, permanent_checkpoints,
 };
 pub use manager::{Manager, ManagerParts};
 pub use node::{Envelope, Node, NodeFault, Output, Taken};

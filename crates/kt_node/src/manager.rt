@@ -1,16 +1,17 @@
 //! A manager: what it holds, and what can be read of it.
 
-ghost use Rattle.std.specs.Prelude.{◌≡◌, ◌<◌, ◌≤◌, ◌&&◌, not, ℕ, true, false, Some, None, IfOk, IfErr, IfSome, IfNone, OnOk};
+ghost use Rattle.std.specs.Prelude.{◌≡◌, ◌<◌, ◌≤◌, ◌&&◌, ◌↔◌, not, ℕ, true, false, Some, None, IsTrue, IfOk, IfErr, IfSome, IfNone, OnOk};
 ghost use Rattle.kt_process.specs.ProcessStates.{is_ready};
 ghost use Rattle.kt_node.specs.Nodes.{NodeState, is_in_rollback};
 ghost use Rattle.kt_node.specs.NodeSteps.{is_in, is_one};
 ghost use Rattle.kt_node.specs.Nets.{opening_net, has_some};
 ghost use Rattle.kt_node.specs.Managers.{IsSoundManager, ShowsNode, HasBack, IsSameManager, number_for};
 ghost use Rattle.kt_node.specs.ManagerParts.{state_of};
+ghost use Rattle.kt_node.specs.OwnParts.{HasOwnPart};
 ghost use Rattle.kt_node.specs.Faults.{stranger};
 
 use crate::faults::ManagerFault;
-use kt_base::{InstNo, Label, Memory, ProcNo};
+use kt_base::{InstNo, Label, Memory, ProcNo, ProcSet};
 use kt_fifo::Channels;
 use kt_process::Process;
 use kt_spacetime::{Count, InstName};
@@ -21,7 +22,10 @@ use std::marker::Model;
 mod instances;
 mod looks;
 mod messages;
+mod own_part;
 mod parcels;
+
+use own_part::has_own_part;
 
 /// One process's manager, by names of its own.
 #[derive(Drop)]
@@ -33,6 +37,8 @@ pub struct Manager {
     begun: u64,
     held: Channels,
     kept: Channels,
+    asks: [Option<InstName>; 64],
+    answered: ProcSet,
 }
 
 /// What a manager is made of, as it has it.
@@ -44,6 +50,8 @@ pub struct ManagerParts {
     pub begun: u64,
     pub held: Channels,
     pub kept: Channels,
+    pub asks: [Option<InstName>; 64],
+    pub answered: ProcSet,
 }
 
 impl Model for Manager {
@@ -51,9 +59,9 @@ impl Model for Manager {
 
     ghost Value = { ManagerState };
 
-    ghost view = { λ m. record { size = m.size; me = m.me; process = m.process; inst = m.inst; begun = m.begun; held = m.held; kept = m.kept } };
+    ghost view = { λ m. record { size = m.size; me = m.me; process = m.process; inst = m.inst; begun = m.begun; held = m.held; kept = m.kept; asks = m.asks; answered = m.answered } };
 
-    ghost invariant = { λ m. IsSoundManager (record { size = m.size; me = m.me; process = m.process; inst = m.inst; begun = m.begun; held = m.held; kept = m.kept }) };
+    ghost invariant = { λ m. IsSoundManager (record { size = m.size; me = m.me; process = m.process; inst = m.inst; begun = m.begun; held = m.held; kept = m.kept; asks = m.asks; answered = m.answered }) };
 }
 
 impl Manager {
@@ -71,30 +79,33 @@ impl Manager {
             begun: 0,
             held: Channels::new(alloc, processes)?,
             kept: Channels::new(alloc, processes)?,
+            asks: [None; 64],
+            answered: ProcSet::empty(),
         })
     }
 
     /// A manager of these parts; None where they do not belong together.
     pub fn of(parts: ManagerParts) -> Option<Manager>
         ensures some { IfSome result (λ m. m ≡ state_of parts) }
-        ensures none { IfNone result (IsSoundManager (state_of parts) → ⊥) }
+        ensures fits { IfSome result (λ m. HasOwnPart m) }
+        ensures none { IfNone result (IsSoundManager (state_of parts) × HasOwnPart (state_of parts) → ⊥) }
     {
-        let size = parts.process.tables().processes();
-        let suits = parts.me.index() < size
-            && parts.begun <= Count::MAX
-            && parts.held.processes() == size
-            && parts.kept.processes() == size;
-        if !suits {
+        if !are_sound(&parts) {
+            return None;
+        }
+        if !has_own_part(&parts) {
             return None;
         }
         Some(Manager {
-            size,
+            size: parts.process.tables().processes(),
             me: parts.me,
             process: parts.process,
             inst: parts.inst,
             begun: parts.begun,
             held: parts.held,
             kept: parts.kept,
+            asks: parts.asks,
+            answered: parts.answered,
         })
     }
 
@@ -143,6 +154,20 @@ impl Manager {
         ensures size { result.now.processes ≡ self.now.size }
     {
         &self.kept
+    }
+
+    /// By process: the instance that its last ask named.
+    pub fn asks(&self) -> &[Option<InstName>; 64]
+        ensures { result.now ≡ self.now.asks }
+    {
+        &self.asks
+    }
+
+    /// Who has replied in the instance at hand.
+    pub fn answered(&self) -> ProcSet
+        ensures { result ≡ self.now.answered }
+    {
+        self.answered
     }
 
     /// The open instance that it is in.
@@ -214,6 +239,8 @@ impl Manager {
             (is_in_rollback y ≡ false) × (has_some (y.held q) ≡ true)) }
         ensures none { IfNone result ((y : NodeState) (q : ℕ) → ShowsNode self.now y →
             is_in_rollback y ≡ false → has_some (y.held q) ≡ false) }
+        ensures least { IfSome result (λ q. (y : NodeState) (p : ℕ) → ShowsNode self.now y →
+            p < q → has_some (y.held p) ≡ false) }
     {
         if self.is_in_rollback() {
             return None;
@@ -247,6 +274,17 @@ impl Manager {
         }
         Ok(())
     }
+}
+
+/// Whether these parts belong together.
+fn are_sound(parts: &ManagerParts) -> bool
+    ensures { IsTrue result ↔ IsSoundManager (state_of parts.now) }
+{
+    let size = parts.process.tables().processes();
+    parts.me.index() < size
+        && parts.begun <= Count::MAX
+        && parts.held.processes() == size
+        && parts.kept.processes() == size
 }
 
 /// Whether a name is that of another instance too.

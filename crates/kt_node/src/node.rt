@@ -1,9 +1,9 @@
 //! A node: a manager whose parcels have numbers, by sender and receiver, and whose steps have clocks.
 
-ghost use Rattle.std.specs.Prelude.{◌≡◌, ◌<◌, ◌≤◌, ◌+◌, ◌-◌, ◌^◌, ◌++◌, ℕ, List, max, length, slice_index, true, Some, IfOk, IfErr, IfSome, IfNone, IsTrue, ◌↔◌, OnOk, OnErr, IsErrOf};
+ghost use Rattle.std.specs.Prelude.{◌≡◌, ◌<◌, ◌≤◌, ◌+◌, ◌-◌, ◌^◌, ◌++◌, ◌∷◌, [], ℕ, List, max, length, slice_index, true, false, Some, IfOk, IfErr, IfSome, IfNone, IsTrue, ◌↔◌, OnOk, OnErr, IsErrOf};
 ghost use Rattle.std.specs.Option.{option_to_list, option_map};
 ghost use Rattle.kt_meaning.specs.Past.{at_one, is_rollback_kind};
-ghost use Rattle.kt_tables.specs.Calls.{Call, receiveds, Speaks};
+ghost use Rattle.kt_tables.specs.Calls.{Call, sent, receiveds, Speaks};
 ghost use Rattle.kt_tables.specs.Labels.{greatest};
 ghost use Rattle.kt_node.specs.Nodes.{NodeState, Send, Begin, Fail, Held, Comes};
 ghost use Rattle.kt_node.specs.NodeSteps.{is_step, node_after};
@@ -12,9 +12,10 @@ ghost use Rattle.kt_node.specs.Nets.{opening_net};
 ghost use Rattle.kt_node.specs.Managers.{ShowsNode};
 ghost use Rattle.kt_node.specs.Effects.{put_to, calls_of};
 ghost use Rattle.kt_node.specs.Faults.{fault_at};
-ghost use Rattle.kt_node.specs.Looks.{is_next, node_look};
+ghost use Rattle.kt_node.specs.Looks.{is_met, node_look};
+ghost use Rattle.kt_node.specs.Meetings.{is_stale_held, meeting_of, next_number};
 ghost use Rattle.kt_node.specs.Reaches.{HasReaches};
-ghost use Rattle.kt_node.specs.Links.{AreCounted, ShowsLinks, IsStep, TakesNext, IsUntaken, IsSameNode, IsNodeRefusedAs, IsParcelRefusedAs};
+ghost use Rattle.kt_node.specs.Links.{AreCounted, ShowsLinks, IsStep, TakesNext, IsUntaken, IsSameNode, IsSpoken, IsGiven, IsHeldMetAs, IsMetAs, IsNodeRefusedAs, IsParcelRefusedAs};
 ghost use Rattle.kt_node.specs.declared.node.NodeFault.TheVariants as fault;
 
 use crate::effects::{Effects, Parcels};
@@ -32,18 +33,21 @@ use thiserror::Error;
 /// No step has a clock above this one, which is 2^64 - 2.
 const MOST: u64 = u64::MAX - 1;
 
-/// A parcel on its way: which one it is of those from its sender to its receiver, counted from 1, the clock of the step that
-/// put it, and what it is.
+/// A parcel on its way: its sender and its receiver, which one it is of those between them, counted from 1, the clock of the
+/// step that put it, and what it is.
 #[derive(Clone, Copy)]
 pub struct Envelope {
+    pub from: ProcNo,
+    pub to: ProcNo,
     pub number: u64,
     pub clock: u64,
     pub parcel: NodeParcel,
 }
 
-/// What a step puts out, with its clock, and how many parcels were put by then for each process.
+/// What a step of a process puts out, with its clock, and how many parcels were put by then for each process.
 #[derive(Drop)]
 pub struct Output {
+    pub from: ProcNo,
     pub clock: u64,
     pub effects: Effects,
     pub numbers: [u64; 64],
@@ -59,9 +63,18 @@ pub enum Taken {
 /// Why a node does not take a step. It is as it was.
 #[derive(Clone, Copy, Debug, Error)]
 pub enum NodeFault {
+    /// The parcel is not one from this sender to this node.
+    #[error("astray")]
+    Astray,
     /// Parcels of this sender are missing: the next one is the one with this number.
     #[error("gap before {0}")]
     Gap(u64),
+    /// Its clock, or the label of its message, is more than 2^40 above those that the node has.
+    #[error("leap")]
+    Leap,
+    /// The label of its message does not rise above the last one of this sender.
+    #[error("stale")]
+    Stale,
     /// No clock follows.
     #[error("clock spent")]
     ClockSpent,
@@ -103,11 +116,14 @@ impl Output {
     pub fn to(&self, q: ProcNo) -> Option<Envelope>
         ensures parcel { option_to_list (option_map (λ e. e.parcel) result)
             ≡ put_to self.now.effects.parcels q }
+        ensures between { IfSome result (λ e. (e.from ≡ self.now.from) × (e.to ≡ q)) }
         ensures number { IfSome result (λ e. e.number ≡ slice_index self.now.numbers q) }
         ensures clock { IfSome result (λ e. e.clock ≡ self.now.clock) }
     {
         match self.effects.parcels.to(q) {
             Some(parcel) => Some(Envelope {
+                from: self.from,
+                to: q,
                 number: self.numbers[q.index()],
                 clock: self.clock,
                 parcel,
@@ -203,30 +219,32 @@ impl Node {
     }
 
     /// What the step at an input needs of its object: that this is saved, or nothing; idle where there is no step, so also
-    /// where a parcel is not the next one of its sender.
+    /// where a parcel is not met as the next one of its sender.
     pub fn look(&self, input: &Input) -> Look
         ensures { (y : NodeState) → ShowsNode self.now.manager y →
             result ≡ node_look self.now y input.now }
     {
-        if !self.is_next(input) || self.next_clock(input.clock()).is_err() {
+        if !self.is_met(input) || self.next_clock(input.clock()).is_err() {
             return Look::Idle;
         }
         self.manager.look(input)
     }
 
-    /// Whether an input is no parcel, or the next one of its sender.
-    fn is_next(&self, input: &Input) -> bool
-        ensures { result ≡ is_next self.now input.now }
+    /// Whether its manager is given what comes: a parcel that is the next one of its sender, a message that it holds and that
+    /// rises, or a command.
+    fn is_met(&self, input: &Input) -> bool
+        ensures { result ≡ is_met self.now input.now }
     {
         match input {
-            Input::Deliver { from, envelope } => { envelope.number == self.taken[from.index()] + 1 }
-            _ => true,
+            Input::Deliver { from, envelope } => matches!(self.meet(*from, envelope), Ok(true)),
+            Input::Redeliver(from) => !self.is_stale_held(*from),
+            Input::Send { .. } | Input::Begin(_) | Input::Fail => true,
         }
     }
 
     /// The number of the next parcel of a process.
     pub(crate) fn next(&self, from: ProcNo) -> u64
-        ensures { result ≡ slice_index self.now.taken from + 1 }
+        ensures { result ≡ next_number self.now from }
     {
         self.taken[from.index()] + 1
     }
@@ -270,6 +288,7 @@ impl Node {
         ensures reaches { (calls : List Call) → HasReaches self.old.reaches calls →
             HasReaches self.new.reaches (calls ++ calls_of effects) }
         ensures effects { result.effects ≡ effects }
+        ensures from { result.from ≡ self.old.manager.me }
         ensures told { result.clock ≡ clock }
         ensures numbers { result.numbers ≡ self.new.sent }
     {
@@ -278,6 +297,7 @@ impl Node {
         self.sent = numbers;
         self.reaches.follow(&effects);
         Output {
+            from: self.manager.me(),
             clock,
             effects,
             numbers,
@@ -300,19 +320,28 @@ impl Node {
     /// It sends a message to another process; where its object is down, it refuses.
     pub fn send(&mut self, to: ProcNo, body: i64) -> Result<Output, NodeFault>
         ensures done { (y : NodeState) → ShowsNode self.old.manager y →
-            Speaks ((node_after y (Send to body)).state.calls) →
             IfOk result (IsStep self.old self.new 0 y (Send to body)) }
         ensures step { (y : NodeState) → ShowsNode self.old.manager y →
             OnOk result (is_step y (Send to body) ≡ true) }
         ensures refused { (y : NodeState) → ShowsNode self.old.manager y →
             IsNodeRefusedAs (fault_at y (Send to body)) result }
+        ensures given { IsGiven result }
         ensures spent { IsErrOf result fault.ClockSpent → 2 ^ 64 - 2 ≤ self.old.clock }
         ensures taken { self.new.taken ≡ self.old.taken }
         ensures err { OnErr result (IsSameNode self.new self.old) }
     {
+        self.speaks();
         let clock = self.next_clock(0)?;
         let effects = self.manager.send(to, body)?;
         Ok(self.put(clock, effects))
+    }
+
+    /// Tables answer for a message that it sends in no instance: its label is above all those before.
+    fn speaks(&self)
+        ensures { (y : NodeState) (q : ℕ) → ShowsNode self.now.manager y → y.inst ≡ None →
+            Speaks (y.calls ++ sent q (y.used + 1) ∷ []) }
+    {
+        let _tables = self.manager.process().tables();
     }
 
     /// It begins an instance of a kind, or refuses: in an instance, and a checkpoint where its object can't be saved.
@@ -321,6 +350,7 @@ impl Node {
             IfOk result (IsStep self.old self.new 0 y (Begin (is_rollback_kind (Some kind)) able)) }
         ensures refused { (y : NodeState) → ShowsNode self.old.manager y →
             IsNodeRefusedAs (fault_at y (Begin (is_rollback_kind (Some kind)) able)) result }
+        ensures given { IsGiven result }
         ensures spent { IsErrOf result fault.ClockSpent → 2 ^ 64 - 2 ≤ self.old.clock }
         ensures taken { self.new.taken ≡ self.old.taken }
         ensures err { OnErr result (IsSameNode self.new self.old) }
@@ -336,6 +366,7 @@ impl Node {
             IfOk result (IsStep self.old self.new 0 y Fail) }
         ensures refused { (y : NodeState) → ShowsNode self.old.manager y →
             IsNodeRefusedAs (fault_at y Fail) result }
+        ensures given { IsGiven result }
         ensures spent { IsErrOf result fault.ClockSpent → 2 ^ 64 - 2 ≤ self.old.clock }
         ensures taken { self.new.taken ≡ self.old.taken }
         ensures err { OnErr result (IsSameNode self.new self.old) }
@@ -347,11 +378,30 @@ impl Node {
 
     /// It takes the first message that it holds of a process, as one that comes.
     pub fn redeliver(&mut self, from: ProcNo) -> Result<Output, NodeFault>
+        ensures done { (y : NodeState) → ShowsLinks self.old y →
+            IfOk result (IsStep self.old self.new 0 y (Held from)) }
+        ensures met { IsHeldMetAs (is_stale_held self.old from) result }
+        ensures refused { (y : NodeState) → ShowsNode self.old.manager y →
+            is_stale_held self.old from ≡ false →
+            IsNodeRefusedAs (fault_at y (Held from)) result }
+        ensures spent { IsErrOf result fault.ClockSpent → 2 ^ 64 - 2 ≤ self.old.clock }
+        ensures taken { self.new.taken ≡ self.old.taken }
+        ensures err { OnErr result (IsSameNode self.new self.old) }
+    {
+        if self.is_stale_held(from) {
+            return Err(NodeFault::Stale);
+        }
+        self.take_held(from)
+    }
+
+    /// The same, where what it holds rises.
+    pub(crate) fn take_held(&mut self, from: ProcNo) -> Result<Output, NodeFault>
         ensures done { (y : NodeState) → ShowsNode self.old.manager y →
             Speaks ((node_after y (Held from)).state.calls) →
             IfOk result (IsStep self.old self.new 0 y (Held from)) }
         ensures refused { (y : NodeState) → ShowsNode self.old.manager y →
             IsNodeRefusedAs (fault_at y (Held from)) result }
+        ensures given { IsGiven result }
         ensures spent { IsErrOf result fault.ClockSpent → 2 ^ 64 - 2 ≤ self.old.clock }
         ensures taken { self.new.taken ≡ self.old.taken }
         ensures err { OnErr result (IsSameNode self.new self.old) }
@@ -362,7 +412,7 @@ impl Node {
     }
 
     /// A parcel of another process comes: the next one of it makes a step, an earlier one changes nothing, and a later one is
-    /// refused. Whether its object can be saved counts where it is asked to take a checkpoint.
+    /// refused, as is one that is not its own. Whether its object can be saved counts where it is asked to take a checkpoint.
     pub fn deliver(
         &mut self,
         alloc: Global,
@@ -372,29 +422,48 @@ impl Node {
     ) -> Result<Taken, NodeFault>
         ensures next { IfOk result (λ t. TakesNext self.old self.new from envelope.now.number t) }
         ensures done { let x = Comes from able envelope.now.parcel in
-            (y : NodeState) → ShowsNode self.old.manager y →
-            Speaks ((node_after y x).state.calls) →
+            (y : NodeState) → ShowsLinks self.old y →
             IfOk result (λ t. IsUntaken t (IsStep self.old self.new envelope.now.clock y x)) }
+        ensures met { IsMetAs (meeting_of self.old from envelope.now) result }
         ensures refused { (y : NodeState) → ShowsNode self.old.manager y →
             IsParcelRefusedAs (fault_at y (Comes from able envelope.now.parcel)) result }
         ensures spent { IsErrOf result fault.ClockSpent →
             2 ^ 64 - 2 ≤ max self.old.clock envelope.now.clock }
-        ensures gap { (n : ℕ) → IsErrOf result (fault.Gap n) →
-            (n ≡ slice_index self.old.taken from + 1) × (n < envelope.now.number) }
+        ensures err { OnErr result (IsSameNode self.new self.old) }
+    {
+        if !self.meet(from, envelope)? {
+            return Ok(Taken::Again);
+        }
+        let output = self.take(alloc, from, able, envelope.clock, &envelope.parcel)?;
+        Ok(Taken::Step(output))
+    }
+
+    /// The next parcel of another process comes, with this clock.
+    pub(crate) fn take(
+        &mut self,
+        alloc: Global,
+        from: ProcNo,
+        able: bool,
+        came: u64,
+        parcel: &NodeParcel,
+    ) -> Result<Output, NodeFault>
+        ensures done { (y : NodeState) → ShowsNode self.old.manager y →
+            IsSpoken y from able parcel.now →
+            IfOk result (IsStep self.old self.new came y (Comes from able parcel.now)) }
+        ensures refused { (y : NodeState) → ShowsNode self.old.manager y →
+            IsNodeRefusedAs (fault_at y (Comes from able parcel.now)) result }
+        ensures given { IsGiven result }
+        ensures spent { IsErrOf result fault.ClockSpent → 2 ^ 64 - 2 ≤ max self.old.clock came }
+        ensures taken { OnOk result ((q : ℕ) → slice_index self.new.taken q
+            ≡ at_one from (next_number self.old from) (slice_index self.old.taken) q) }
         ensures err { OnErr result (IsSameNode self.new self.old) }
     {
         let next = self.taken[from.index()] + 1;
-        if envelope.number < next {
-            return Ok(Taken::Again);
-        }
-        if envelope.number > next {
-            return Err(NodeFault::Gap(next));
-        }
-        let clock = self.next_clock(envelope.clock)?;
-        let effects = self.manager.take(alloc, from, able, &envelope.parcel)?;
+        let clock = self.next_clock(came)?;
+        let effects = self.manager.take(alloc, from, able, parcel)?;
         let output = self.put(clock, effects);
         self.note(from, next);
-        Ok(Taken::Step(output))
+        Ok(output)
     }
 }
 

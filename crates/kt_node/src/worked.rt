@@ -1,12 +1,15 @@
 //! The definitions on worked runs.
 
-ghost use Rattle.std.specs.Prelude.{◌≡◌, Some, [], ◌∷◌, map};
+ghost use Rattle.std.specs.Prelude.{◌≡◌, pos, true, Some, [], ◌∷◌, map};
+ghost use Rattle.kt_protocol.specs.States.{Send};
 ghost use Rattle.kt_protocol.specs.WorkedRuns as worked;
 ghost use Rattle.kt_meaning.specs.Names.{named, numbered};
 ghost use Rattle.kt_meaning.specs.WorkedNames.{two_processes_by_name};
 ghost use Rattle.kt_node.specs.Nets.{net_run, opening_net};
-ghost use Rattle.kt_node.specs.Clocks.{clocked_run, opening_clocked};
+ghost use Rattle.kt_node.specs.Clocks.{clocked_row, clocked_run, opening_clocked};
 ghost use Rattle.kt_node.specs.Erasing.{rows_from};
+ghost use Rattle.kt_node.specs.Numbered.{Own, Comes, numbered_run, opening_numbered};
+ghost use Rattle.kt_spacetime.specs.declared.named_rows.NamedEvent.TheVariants.{Sent, Received};
 
 /// Nets tell the rows that the logs of worked runs have by names: a law, with nothing to run.
 pub fn worked_nets()
@@ -31,4 +34,10 @@ pub fn worked_nets()
     // A step without a row takes time too: 0 takes an ask at 4, and tells nothing.
     ensures clocks { map (λ r. r.clock) (clocked_run (opening_clocked 2 0) worked.two_checkpoints_at_once_steps).rows
         ≡ 1 ∷ 2 ∷ 3 ∷ 3 ∷ 2 ∷ 2 ∷ 2 ∷ 2 ∷ 5 ∷ 5 ∷ [] }
+
+    // The second of two messages overtakes the first one, which comes twice, and comes again.
+    ensures overtaken { (numbered_run (opening_numbered 2 0) (Own (Send 0 1 (pos 7)) ∷ Own (Send 0 1 (pos 8))
+        ∷ Comes 1 0 true 2 ∷ Comes 1 0 true 1 ∷ Comes 1 0 true 1 ∷ Comes 1 0 true 2 ∷ [])).rows
+        ≡ clocked_row 0 1 (Sent 1 (pos 7) 1) ∷ clocked_row 0 2 (Sent 1 (pos 8) 2)
+        ∷ clocked_row 1 2 (Received 0 1) ∷ clocked_row 1 3 (Received 0 2) ∷ [] }
 {}

@@ -1,18 +1,21 @@
 -- What is made of the form of a process, a manager or a node has that form again, and belongs together as it does.
-use Rattle.std.proofs.Common.{◌≡◌, ◌∙◌, ◌+◌, ◌-◌, ◌^◌, ◌<◌, ◌≤◌, ◌∷◌, ◌++◌, ℕ, Bool, List, [], refl, sym, ap, subst, arith}
+use Rattle.std.proofs.Common.{◌≡◌, ◌∙◌, ◌+◌, ◌-◌, ◌^◌, ◌<◌, ◌≤◌, ◌∷◌, ◌++◌, ℕ, Bool, List, [], length, refl, sym, ap, subst, arith}
 use Rattle.std.specs.Prelude.{zero, suc, Option, slice_index}
 use Rattle.kt_fifo.specs.Channels.{ChannelLists, channel}
 use Rattle.kt_tables.specs.Peers.{find_label, label_of}
 use Rattle.kt_tables.specs.States.{State}
 use Rattle.kt_process.specs.ProcessStates.{ProcessState, ProcessFits, is_saving, part_of_side, IsNear, HasMarks}
 use Rattle.kt_process.specs.declared.side.Side.{Side}
+use Rattle.kt_process.specs.Shown.{part_shown}
+use Rattle.kt_machine.specs.Seen.{SeenPart}
+use Rattle.kt_node.specs.OwnParts.{HasOwnPart}
 use Rattle.kt_spacetime.specs.declared.names.InstName.{InstName}
-use Rattle.kt_node.specs.Managers.{ManagerState, IsSoundManager}
+use Rattle.kt_node.specs.Managers.{ManagerState, IsSoundManager, number_in}
 use Rattle.kt_node.specs.Links.{NodeLinks, AreCounted}
 use Rattle.kt_node.specs.declared.reach.Reaches.{Reaches}
 use Rattle.kt_node_text.specs.Form.{gather, counted, of_parcel, of_lists, of_flag, of_name, of_side, of_tables, of_process, of_manager, of_list, of_reaches, numbers_of, version}
 use Rattle.kt_node_text.proofs.GatheredReads.{list_form}
-use Rattle.kt_node_text.proofs.Parts.{one_tables}
+use Rattle.kt_node_text.proofs.Parts.{one_tables, one_process}
 
 same_labels : (t u : State) (q n : ℕ) → of_tables t ≡ of_tables u → label_of u.last_out q ≤ n → label_of t.last_out q ≤ n
 unfolding label_of
@@ -67,7 +70,7 @@ same_lists : (u v : ChannelLists) (m n p q : ℕ) → m ≡ n → p ≡ q → ((
 same_lists u v m n p q e f h = same_gather m (list_form u p) (list_form v p) (λ k b. ap (counted of_parcel) (h k b)) ∙ (λ i. of_lists (e i) (f i) v)
 
 -- what was read of a manager
-pub record IsReadManager (w : ManagerState) (size me : ℕ) (process : ProcessState) (inst : Option InstName) (begun : ℕ) (held kept : ChannelLists) : Type 0 where
+pub record IsReadManager (w : ManagerState) (size me : ℕ) (process : ProcessState) (inst : Option InstName) (begun : ℕ) (held kept : ChannelLists) (asks : List (Option InstName)) (answered : ℕ) : Type 0 where
   pub is_size : size ≡ w.size
   pub is_me : me ≡ w.me
   pub tables : process.tables.processes ≡ size
@@ -78,13 +81,15 @@ pub record IsReadManager (w : ManagerState) (size me : ℕ) (process : ProcessSt
   pub kept_of : kept.processes ≡ size
   pub held_same : (q : ℕ) → q < size → channel held q me ≡ channel w.held q me
   pub kept_same : (q : ℕ) → q < size → channel kept q me ≡ channel w.kept q me
+  pub named : asks ≡ w.asks
+  pub replied : answered ≡ w.answered
 
-abbrev pub manager_of : ℕ → ProcessState → Option InstName → ℕ → ChannelLists → ChannelLists → ManagerState
-manager_of me process inst begun held kept = record { size = process.tables.processes; me = me; process = process; inst = inst; begun = begun; held = held; kept = kept }
+abbrev pub manager_of : ℕ → ProcessState → Option InstName → ℕ → ChannelLists → ChannelLists → List (Option InstName) → ℕ → ManagerState
+manager_of me process inst begun held kept asks answered = record { size = process.tables.processes; me = me; process = process; inst = inst; begun = begun; held = held; kept = kept; asks = asks; answered = answered }
 
-pub sound_again : (w : ManagerState) (size me : ℕ) (process : ProcessState) (inst : Option InstName) (begun : ℕ) (held kept : ChannelLists) → IsSoundManager w →
-    IsReadManager w size me process inst begun held kept → IsSoundManager (manager_of me process inst begun held kept)
-sound_again w size me process inst begun held kept f h = record {
+pub sound_again : (w : ManagerState) (size me : ℕ) (process : ProcessState) (inst : Option InstName) (begun : ℕ) (held kept : ChannelLists) (asks : List (Option InstName)) (answered : ℕ) → IsSoundManager w →
+    IsReadManager w size me process inst begun held kept asks answered → IsSoundManager (manager_of me process inst begun held kept asks answered)
+sound_again w size me process inst begun held kept asks answered f h = record {
   few = omega (arith, h.tables, h.is_size, f.few);
   me = omega (arith, h.tables, h.is_size, h.is_me, f.me);
   tables = refl;
@@ -93,13 +98,26 @@ sound_again w size me process inst begun held kept f h = record {
   kept = h.kept_of ∙ sym h.tables;
 }
 
-pub manager_again : (w : ManagerState) (size me : ℕ) (process : ProcessState) (inst : Option InstName) (begun : ℕ) (held kept : ChannelLists) →
-    IsReadManager w size me process inst begun held kept → of_manager (manager_of me process inst begun held kept) ≡ of_manager w
-manager_again w size me process inst begun held kept h =
+pub manager_again : (w : ManagerState) (size me : ℕ) (process : ProcessState) (inst : Option InstName) (begun : ℕ) (held kept : ChannelLists) (asks : List (Option InstName)) (answered : ℕ) →
+    IsReadManager w size me process inst begun held kept asks answered → of_manager (manager_of me process inst begun held kept asks answered) ≡ of_manager w
+manager_again w size me process inst begun held kept asks answered h =
     let n : process.tables.processes ≡ w.size = h.tables ∙ h.is_size in
     let held_form = same_lists held w.held process.tables.processes w.size me w.me n h.is_me (λ k b. h.held_same k (omega (arith, h.tables))) in
     let kept_form = same_lists kept w.kept process.tables.processes w.size me w.me n h.is_me (λ k b. h.kept_same k (omega (arith, h.tables))) in
-    λ i. n i ∷ h.is_me i ∷ h.count i ∷ of_name (h.name i) ++ (h.form i ++ (held_form i ++ kept_form i))
+    λ i. n i ∷ h.is_me i ∷ h.count i ∷ of_name (h.name i) ++ (h.form i ++ (held_form i ++ (kept_form i ++ (counted of_name (h.named i) ++ h.replied i ∷ []))))
+
+-- and its part is its own
+pub own_again : (w : ManagerState) (size me : ℕ) (process : ProcessState) (inst : Option InstName) (begun : ℕ) (held kept : ChannelLists) (asks : List (Option InstName)) (answered : ℕ) → HasOwnPart w →
+    IsReadManager w size me process inst begun held kept asks answered → HasOwnPart (manager_of me process inst begun held kept asks answered)
+own_again w size me process inst begun held kept asks answered f h =
+    let same = (one_process process w.process [] [] (ap (λ (l : List ℕ). l ++ []) h.form)).0 in
+    let n : process.tables.processes ≡ w.size = h.tables ∙ h.is_size in record {
+      named = same.side.inst ∙ (f.named ∙ ap number_in (sym h.name));
+      marks = λ q b.
+          let marks : (part_shown process.side).marks q ≡ (part_shown w.process.side).marks q = ap (λ (p : SeenPart). p.marks q) same.side.shown in
+          let there : length (channel kept q me) ≡ length (channel w.kept q w.me) = ap length (h.kept_same q (omega (arith, h.tables, b))) ∙ ap (λ (p : ℕ). length (channel w.kept q p)) h.is_me in
+          omega (arith, marks, there, f.marks q (omega (arith, n, b)));
+    }
 
 -- what was read of a node
 pub record IsReadNode (w : NodeLinks) (manager : ManagerState) (clock : ℕ) (sent taken : List ℕ) (reaches : Reaches) : Type 0 where

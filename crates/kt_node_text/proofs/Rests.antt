@@ -56,7 +56,7 @@ range_more P xs i x h b e p = All-more P xs i x b h (subst P e p)
 pub range_all : {X : Type 0} (P : X → Type 0) (xs : List X) (i : ℕ) → All P (take i xs) → length xs ≤ i → All P xs
 range_all {X} P xs i h b = subst (λ (l : List X). All P l) (take_all i xs b) h
 
-is_none : {X : Type 0} {o : Option X} (x : X) → o ≡ None → o ≡ Some x → ⊥
+pub is_none : {X : Type 0} {o : Option X} (x : X) → o ≡ None → o ≡ Some x → ⊥
 is_none x e f = cc
 
 pub is_there : {X : Type 0} (xs : List X) (i : ℕ) → slice_get xs i ≡ None → i < length xs → ⊥

@@ -1,10 +1,12 @@
 -- Nodes with the same numbers are the same, but for room.
-use Rattle.std.specs.Prelude.{Option, Some, None, nat_lt}
+use Rattle.std.specs.Prelude.{Option, Some, None, nat_lt, slice_index_or}
 use Rattle.std.proofs.Common.{◌≡◌, ◌∙◌, ◌+◌, ◌<◌, ◌≤◌, ℕ, Bool, true, false, List, [], ◌∷◌, ◌++◌, refl, sym, ap, subst, arith, append_assoc, inl, inr}
 use Rattle.std.proofs.lemmas.Bool.{cases_lt}
 use Rattle.std.proofs.lemmas.Bool.Decides.{nat_tests}
 use Rattle.std.proofs.Math.Path.{fun_ext}
+use Rattle.kt_base.specs.Sets.{has}
 use Rattle.kt_fifo.specs.Channels.{ChannelLists, channel}
+use Rattle.kt_spacetime.specs.declared.names.InstName.{InstName}
 use Rattle.kt_tables.specs.Peers.{find_label, label_of, LabelTable}
 use Rattle.kt_tables.specs.Calls.{Call}
 use Rattle.kt_tables.specs.States.{State}
@@ -69,6 +71,8 @@ record IsSameBut (a b : ManagerState) : Type 0 where
   process : IsSameProcess a.process b.process
   held : lists_to a.held a.me ≡ lists_to b.held b.me
   kept : lists_to a.kept a.me ≡ lists_to b.kept b.me
+  asks : a.asks ≡ b.asks
+  answered : a.answered ≡ b.answered
 
 -- the lists to one process, where numbers and size are the same
 one_lists : (v w : ChannelLists) (m n p q : ℕ) (r s : Numbers) → m ≡ n → p ≡ q → v.processes ≡ m → w.processes ≡ n →
@@ -89,8 +93,10 @@ one_manager a b r s f g e =
     let inst = one_name a.inst b.inst _ _ (behind (of_name a.inst) _ r (of_name b.inst) _ s e3) in
     let process = one_process a.process b.process _ _ (behind (of_process a.process) _ r (of_process b.process) _ s inst.1) in
     let held = one_lists a.held b.held a.size b.size a.me b.me _ _ size me f.held g.held (behind (of_lists a.size a.me a.held) _ r (of_lists b.size b.me b.held) _ s process.1) in
-    let kept = one_lists a.kept b.kept a.size b.size a.me b.me r s size me f.kept g.kept held.1 in
-    (record { size = size; me = me; begun = begun; inst = inst.0; process = process.0; held = held.0; kept = kept.0 }, kept.1)
+    let kept = one_lists a.kept b.kept a.size b.size a.me b.me _ _ size me f.kept g.kept (behind (of_lists a.size a.me a.kept) _ r (of_lists b.size b.me b.kept) _ s held.1) in
+    let asks = one_counted of_name one_name a.asks b.asks _ _ (behind (counted of_name a.asks) _ r (counted of_name b.asks) _ s kept.1) in
+    let answered : a.answered ≡ b.answered = same_head _ _ _ _ asks.1 in
+    (record { size = size; me = me; begun = begun; inst = inst.0; process = process.0; held = held.0; kept = kept.0; asks = asks.0; answered = answered }, same_tail _ _ _ _ asks.1)
 
 shows_same : (a b : ManagerState) (y : NodeState) → IsSameBut a b → ProcessFits a.process → ProcessFits b.process → ShowsNode a y → ShowsNode b y
 shows_same a b y h f g s = record {
@@ -100,9 +106,11 @@ shows_same a b y h f g s = record {
     begun = sym h.begun ∙ s.holds.begun;
     held = sym h.held ∙ s.holds.held;
     kept = sym h.kept ∙ s.holds.kept;
+    asks = λ q. ap (λ (l : List (Option InstName)). slice_index_or l q None) (sym h.asks) ∙ s.holds.asks q;
   };
   process = process_same a.process b.process _ h.process f g s.process;
   inst = sym h.inst ∙ s.inst;
+  answered = λ q. ap (λ n. has n q) (sym h.answered) ∙ s.answered q;
 }
 
 pub no_rest : (xs : Numbers) → xs ++ [] ≡ xs
@@ -128,4 +136,7 @@ same_numbers w v f g e0 =
       sent = sym sent.0;
       taken = sym taken.0;
       reaches = sym reach.0;
+      me = sym manager.0.me;
+      used = sym manager.0.process.used;
+      held = sym manager.0.held;
     }

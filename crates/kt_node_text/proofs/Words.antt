@@ -1,11 +1,12 @@
 -- Numbers of 64 bits have bytes of their own.
-use Rattle.std.specs.Prelude.{All, suc}
+use Rattle.std.specs.Prelude.{All, zero, suc}
 use Rattle.std.specs.List.{flat_map}
-use Rattle.std.specs.Int.{w64, to_le_bytes, from_le_bytes}
+use Rattle.std.specs.Int.{w64, to_le_bytes, from_le_bytes, byte_at, bytes_low_first}
 use Rattle.std.proofs.lemmas.List.{flat_map_more, get_or_past, get_or-take, length-take}
 use Rattle.std.proofs.lemmas.Bool.{cases_lt}
-use Rattle.std.proofs.lemmas.Nat.{from_le_bytes-to_le_bytes_8}
-use Rattle.std.proofs.Common.{◌≡◌, ◌∙◌, ◌+◌, ◌*◌, ◌<◌, ◌^◌, ℕ, List, [], ◌∷◌, ◌++◌, length, get_or, take, drop, subst, inl, inr, refl, sym, ap, arith, append_assoc, length-append}
+use Rattle.std.proofs.lemmas.List.Elements.{All-nil, All-cons, All-append}
+use Rattle.std.proofs.lemmas.Nat.{from_le_bytes-to_le_bytes_8, mod_below}
+use Rattle.std.proofs.Common.{◌≡◌, ◌∙◌, ◌+◌, ◌*◌, ◌/◌, ◌%◌, ◌<◌, ◌^◌, ℕ, List, [], ◌∷◌, ◌++◌, length, get_or, take, drop, subst, inl, inr, refl, sym, ap, arith, append_assoc, length-append}
 use Rattle.kt_node_text.specs.Form.{bytes_of}
 
 le_bytes_injective : (m n : ℕ) → m < 2 ^ 64 → n < 2 ^ 64 → to_le_bytes w64 m ≡ to_le_bytes w64 n → m ≡ n
@@ -49,3 +50,16 @@ front_fits bs h i = elim (cases_lt i 8) [
   | inl less ↦ subst (λ (b : ℕ). b < 256) (sym (get_or-take 8 bs i 0 less)) (h i)
   | inr more ↦ subst (λ (b : ℕ). b < 256) (sym (get_or_past (take 8 bs) i 0 (omega (arith, length-take 8 bs)))) (omega arith)
 ]
+
+-- the bytes of numbers are bytes
+byte_fits : (i n : ℕ) → byte_at i n < 2 ^ 8
+byte_fits zero n = mod_below n 256 (omega arith)
+byte_fits (suc i) n = mod_below (n / 256 ^ suc i) 256 (omega arith)
+
+word_fits : (i k n : ℕ) → All (λ b. b < 2 ^ 8) (bytes_low_first i k n)
+word_fits i zero n = All-nil (λ b. b < 2 ^ 8)
+word_fits i (suc k) n = All-cons (λ b. b < 2 ^ 8) (byte_at i n) (bytes_low_first (suc i) k n) (byte_fits i n) (word_fits (suc i) k n)
+
+pub bytes_fit : (ns : List ℕ) → All (λ b. b < 2 ^ 8) (bytes_of ns)
+bytes_fit [] = All-nil (λ b. b < 2 ^ 8)
+bytes_fit (n ∷ ns) = All-append (λ b. b < 2 ^ 8) (to_le_bytes w64 n) (bytes_of ns) (word_fits 0 8 n) (bytes_fit ns)

@@ -1,7 +1,8 @@
--- A node's state as numbers, and numbers as bytes.
+-- A node's state as numbers, numbers as bytes, and a node's text.
 use Rattle.std.specs.Prelude.{ℕ, zero, suc, ◌+◌, ℤ, pos, negsuc, Bool, true, false, Option, Some, None, List, [], ◌∷◌, ◌++◌, length}
 use Rattle.std.specs.List.{flat_map}
 use Rattle.std.specs.Int.{w64, to_le_bytes}
+use Rattle.kt_checksum.specs.Checksums.{sealed}
 use Rattle.kt_base.specs.declared.words.Kind.{Kind}
 use Rattle.kt_base.specs.declared.words.Kind.TheVariants.{Checkpoint, Rollback}
 use Rattle.kt_fifo.specs.Channels.{ChannelLists, channel}
@@ -24,7 +25,7 @@ bytes_of numbers = flat_map (to_le_bytes w64) numbers
 
 -- the version of the form
 abbrev pub version : ℕ
-version = 1
+version = 2
 
 abbrev pub of_flag : Bool → ℕ
 of_flag false = 0
@@ -96,7 +97,9 @@ abbrev pub of_manager : ManagerState → List ℕ
 of_manager w = w.size ∷ w.me ∷ w.begun ∷ of_name w.inst
     ++ (of_process w.process
     ++ (of_lists w.size w.me w.held
-    ++ of_lists w.size w.me w.kept))
+    ++ (of_lists w.size w.me w.kept
+    ++ (counted of_name w.asks
+    ++ w.answered ∷ []))))
 
 abbrev pub of_reach : Reach → List ℕ
 of_reach r = r.sent ∷ of_list r.received
@@ -110,3 +113,7 @@ numbers_of w = version ∷ w.clock ∷ of_manager w.manager
     ++ (of_list w.sent
     ++ (of_list w.taken
     ++ of_reaches w.reaches))
+
+-- a node's text: its numbers, and the checksum of them behind them
+abbrev pub text_of : NodeLinks → List ℕ
+text_of w = sealed (bytes_of (numbers_of w))

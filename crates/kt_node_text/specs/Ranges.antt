@@ -33,6 +33,9 @@ IsParcel (Decide inst commit) = IsInstNo inst
 abbrev pub IsName : InstName → Type 0
 IsName k = IsProcNo k.initiator × IsCount k.count
 
+abbrev pub IsNameIfAny : Option InstName → Type 0
+IsNameIfAny o = IfSome o IsName
+
 pub record IsPart (p : Part) : Type 0 where
   pub inst : IsInstNo p.inst
   pub parent : IfSome p.parent IsProcNo
@@ -74,10 +77,12 @@ abbrev pub AreLists : ℕ → ℕ → ChannelLists → Type 0
 AreLists n to w = (q : ℕ) → q < n → All IsParcel (channel w q to)
 
 pub record IsManager (w : ManagerState) : Type 0 where
-  pub inst : IfSome w.inst IsName
+  pub inst : IsNameIfAny w.inst
   pub process : IsProcess w.process
   pub held : AreLists w.size w.me w.held
   pub kept : AreLists w.size w.me w.kept
+  pub asks : All IsNameIfAny w.asks
+  pub many : length w.asks ≡ 64
 
 -- a number for each process that there may be
 abbrev pub IsRow : List ℕ → Type 0

@@ -2,8 +2,9 @@
 use Rattle.std.specs.Prelude.{◌≡◌, ◌<◌, ◌^◌, ℕ, List, All}
 use Rattle.kt_node.specs.Nodes.{NodeState}
 use Rattle.kt_process.specs.ProcessStates.{ProcessFits}
-use Rattle.kt_node.specs.Managers.{IsSoundManager}
+use Rattle.kt_node.specs.Managers.{IsSoundManager, lists_to}
 use Rattle.kt_node.specs.Links.{NodeLinks, AreCounted, ShowsLinks}
+use Rattle.kt_node.specs.OwnParts.{HasOwnPart}
 use Rattle.kt_node_text.specs.Form.{numbers_of}
 use Rattle.kt_node_text.specs.Ranges.{IsNode}
 
@@ -15,10 +16,19 @@ pub record IsSound (w : NodeLinks) : Type 0 where
   pub ranges : IsNode w
   pub words : All (λ n. n < 2 ^ 64) (numbers_of w)
 
--- a node is whatever state another one is, with the same clock, the same numbers of parcels, and messages that go as far
+-- a node as calls make it: its part in an instance is its own too
+pub record IsOwn (w : NodeLinks) : Type 0 where
+  pub sound : IsSound w
+  pub part : HasOwnPart w.manager
+
+-- a node is whatever state another one is, with the same clock, the same numbers of parcels, and messages that go as far; it is
+-- of the same process, used the same label last, and holds the same
 pub record IsSameState (w v : NodeLinks) : Type 0 where
   pub shows : (y : NodeState) → ShowsLinks w y → ShowsLinks v y
   pub clock : v.clock ≡ w.clock
   pub sent : v.sent ≡ w.sent
   pub taken : v.taken ≡ w.taken
   pub reaches : v.reaches ≡ w.reaches
+  pub me : v.manager.me ≡ w.manager.me
+  pub used : v.manager.process.used ≡ w.manager.process.used
+  pub held : lists_to v.manager.held v.manager.me ≡ lists_to w.manager.held w.manager.me

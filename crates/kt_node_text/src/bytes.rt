@@ -2,11 +2,13 @@
 
 ghost use Rattle.std.specs.Prelude.{◌≡◌, ◌≤◌, ◌<◌, ◌^◌, ◌++◌, ℕ, List, length, take, All, IfOk, OnOk, OnErr, IsErrOf};
 ghost use Rattle.std.specs.Int.{w64, to_le_bytes, from_le_bytes};
+ghost use Rattle.kt_checksum.specs.Checksums.{sealed};
 ghost use Rattle.kt_node_text.specs.Form.{bytes_of};
 ghost use Rattle.kt_node_text.specs.declared.fault.LoadFault.TheVariants as fault;
 
 use crate::fault::LoadFault;
 use kt_base::Memory;
+use kt_checksum::checksum;
 use std::alloc::Global;
 
 /// What is so of all numbers.
@@ -16,16 +18,20 @@ pub(crate) fn words_fit(numbers: &[u64])
     let _count = numbers.len();
 }
 
-/// Adds the bytes of numbers.
+/// Adds the bytes of numbers, and their checksum.
 pub(crate) fn put_numbers(out: &mut Vec<u8>, numbers: &[u64]) -> Result<(), Memory>
-    ensures ok { OnOk result (out.new.items ≡ out.old.items ++ bytes_of numbers.now) }
+    ensures ok { OnOk result (out.new.items ≡ out.old.items ++ sealed (bytes_of numbers.now)) }
     ensures err { OnErr result (out.new.items ≡ out.old.items) }
 {
-    out.reserve(numbers.len() * 8)?;
+    let start = out.len();
+    out.reserve(numbers.len() * 8 + 4)?;
     for number in numbers {
         let bytes = number.to_le_bytes();
         out.extend_from_slice(&bytes).unwrap();
     }
+    let (_, text) = out.split_at(start);
+    let sum = checksum(text).to_le_bytes();
+    out.extend_from_slice(&sum).unwrap();
     Ok(())
 }
 

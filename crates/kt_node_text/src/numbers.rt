@@ -1,20 +1,21 @@
 //! Numbers that are read one after another.
 
-ghost use Rattle.std.specs.Prelude.{◌≡◌, ◌≤◌, ◌∷◌, ◌++◌, ℕ, ℤ, Bool, Option, List, All, FitsSigned, IfOk, IfSome};
+ghost use Rattle.std.specs.Prelude.{◌≡◌, ◌≤◌, ◌∷◌, ◌++◌, ℕ, ℤ, Bool, Option, List, length, All, FitsSigned, IfOk, IfErr, IfSome};
 ghost use Rattle.std.specs.Int.{w64};
 ghost use Rattle.kt_base.specs.Numbers.{IsProcNo, IsLabel, IsInstNo, IsMsgNo};
 ghost use Rattle.kt_base.specs.declared.words.Kind.{Kind as kinds};
 ghost use Rattle.kt_spacetime.specs.declared.names.InstName.{InstName};
 ghost use Rattle.kt_node_text.specs.Form.{of_flag, of_optional, of_kind, of_body, of_name, of_list, of_pair, counted};
-ghost use Rattle.kt_node_text.specs.Ranges.{IsPair, IsName, IsRow};
+ghost use Rattle.kt_node_text.specs.Ranges.{IsPair, IsName, IsNameIfAny, IsRow};
 ghost use Rattle.kt_node_text.specs.Reading.{IsRead, IsReadAs};
+ghost use Rattle.kt_node_text.specs.declared.fault.LoadFault.TheVariants as fault;
 
 use crate::fault::LoadFault;
 use kt_base::{InstNo, Kind, Label, MsgNo, ProcNo};
 use kt_spacetime::{Count, InstName};
 use std::alloc::Global;
 
-/// The numbers that are still to be read.
+/// The numbers that are still to be read. What reads them asks for no memory, but for lists: so its fault is one of form.
 #[derive(Drop)]
 pub(crate) struct Numbers<'a> {
     rest: &'a [u64],
@@ -30,8 +31,9 @@ impl<'a> Numbers<'a> {
 
     /// The next number.
     pub(crate) fn next(&mut self) -> Result<u64, LoadFault>
-        ensures { (n : ℕ) (after : List ℕ) → self.old.rest.now ≡ n ∷ after →
+        ensures read { (n : ℕ) (after : List ℕ) → self.old.rest.now ≡ n ∷ after →
             IsRead n after result self.new.rest.now }
+        ensures form { IfErr result (λ f. f ≡ fault.Form) }
     {
         match self.rest.split_first() {
             Some((number, rest)) => {
@@ -47,6 +49,7 @@ impl<'a> Numbers<'a> {
         ensures most { IfOk result (λ number. number ≤ most) }
         ensures read { (n : ℕ) (after : List ℕ) → n ≤ most → self.old.rest.now ≡ n ∷ after →
             IsRead n after result self.new.rest.now }
+        ensures form { IfErr result (λ f. f ≡ fault.Form) }
     {
         let number = self.next()?;
         if number <= most {
@@ -58,16 +61,18 @@ impl<'a> Numbers<'a> {
 
     /// One of two cases.
     pub(crate) fn flag(&mut self) -> Result<bool, LoadFault>
-        ensures { (b : Bool) (after : List ℕ) → self.old.rest.now ≡ of_flag b ∷ after →
+        ensures read { (b : Bool) (after : List ℕ) → self.old.rest.now ≡ of_flag b ∷ after →
             IsRead b after result self.new.rest.now }
+        ensures form { IfErr result (λ f. f ≡ fault.Form) }
     {
         Ok(self.up_to(1)? == 1)
     }
 
     /// A process.
     pub(crate) fn process(&mut self) -> Result<ProcNo, LoadFault>
-        ensures { (p : ℕ) (after : List ℕ) → IsProcNo p → self.old.rest.now ≡ p ∷ after →
+        ensures read { (p : ℕ) (after : List ℕ) → IsProcNo p → self.old.rest.now ≡ p ∷ after →
             IsRead p after result self.new.rest.now }
+        ensures form { IfErr result (λ f. f ≡ fault.Form) }
     {
         let number = self.up_to(63)?;
         Ok(ProcNo::nth(number as u8))
@@ -75,9 +80,10 @@ impl<'a> Numbers<'a> {
 
     /// A process by one more than its number, or none by 0.
     pub(crate) fn optional(&mut self) -> Result<Option<ProcNo>, LoadFault>
-        ensures { (o : Option ℕ) (after : List ℕ) → IfSome o IsProcNo →
+        ensures read { (o : Option ℕ) (after : List ℕ) → IfSome o IsProcNo →
             self.old.rest.now ≡ of_optional o ∷ after →
             IsRead o after result self.new.rest.now }
+        ensures form { IfErr result (λ f. f ≡ fault.Form) }
     {
         let number = self.up_to(64)?;
         if number == 0 {
@@ -89,8 +95,9 @@ impl<'a> Numbers<'a> {
 
     /// A label, 0 for none.
     pub(crate) fn label(&mut self) -> Result<Label, LoadFault>
-        ensures { (l : ℕ) (after : List ℕ) → IsLabel l → self.old.rest.now ≡ l ∷ after →
+        ensures read { (l : ℕ) (after : List ℕ) → IsLabel l → self.old.rest.now ≡ l ∷ after →
             IsRead l after result self.new.rest.now }
+        ensures form { IfErr result (λ f. f ≡ fault.Form) }
     {
         let number = self.next()?;
         Label::new(number).ok_or(LoadFault::Form)
@@ -98,8 +105,9 @@ impl<'a> Numbers<'a> {
 
     /// An instance, by the number by which a process knows it.
     pub(crate) fn inst(&mut self) -> Result<InstNo, LoadFault>
-        ensures { (k : ℕ) (after : List ℕ) → IsInstNo k → self.old.rest.now ≡ k ∷ after →
+        ensures read { (k : ℕ) (after : List ℕ) → IsInstNo k → self.old.rest.now ≡ k ∷ after →
             IsRead k after result self.new.rest.now }
+        ensures form { IfErr result (λ f. f ≡ fault.Form) }
     {
         let number = self.up_to(4096)?;
         InstNo::new(number as u16).ok_or(LoadFault::Form)
@@ -107,8 +115,9 @@ impl<'a> Numbers<'a> {
 
     /// A message.
     pub(crate) fn message(&mut self) -> Result<MsgNo, LoadFault>
-        ensures { (m : ℕ) (after : List ℕ) → IsMsgNo m → self.old.rest.now ≡ m ∷ after →
+        ensures read { (m : ℕ) (after : List ℕ) → IsMsgNo m → self.old.rest.now ≡ m ∷ after →
             IsRead m after result self.new.rest.now }
+        ensures form { IfErr result (λ f. f ≡ fault.Form) }
     {
         let number = self.up_to(16_777_216)?;
         MsgNo::new(number as u32).ok_or(LoadFault::Form)
@@ -116,8 +125,9 @@ impl<'a> Numbers<'a> {
 
     /// A kind of instance.
     pub(crate) fn kind(&mut self) -> Result<Kind, LoadFault>
-        ensures { (k : kinds) (after : List ℕ) → self.old.rest.now ≡ of_kind k ∷ after →
+        ensures read { (k : kinds) (after : List ℕ) → self.old.rest.now ≡ of_kind k ∷ after →
             IsRead k after result self.new.rest.now }
+        ensures form { IfErr result (λ f. f ≡ fault.Form) }
     {
         match self.up_to(1)? {
             0 => Ok(Kind::Checkpoint),
@@ -127,8 +137,9 @@ impl<'a> Numbers<'a> {
 
     /// A body, after whether it is negative.
     pub(crate) fn body(&mut self) -> Result<i64, LoadFault>
-        ensures { (b : ℤ) (after : List ℕ) → FitsSigned w64 b →
+        ensures read { (b : ℤ) (after : List ℕ) → FitsSigned w64 b →
             self.old.rest.now ≡ of_body b ++ after → IsRead b after result self.new.rest.now }
+        ensures form { IfErr result (λ f. f ≡ fault.Form) }
     {
         let negative = self.flag()?;
         let size = self.up_to(1 << 63)?;
@@ -143,8 +154,9 @@ impl<'a> Numbers<'a> {
 
     /// The name of an instance, if there is one.
     pub(crate) fn name(&mut self) -> Result<Option<InstName>, LoadFault>
-        ensures { (o : Option InstName) (after : List ℕ) → IfSome o IsName →
+        ensures read { (o : Option InstName) (after : List ℕ) → IfSome o IsName →
             self.old.rest.now ≡ of_name o ++ after → IsRead o after result self.new.rest.now }
+        ensures form { IfErr result (λ f. f ≡ fault.Form) }
     {
         if !self.flag()? {
             return Ok(None);
@@ -155,6 +167,22 @@ impl<'a> Numbers<'a> {
             Some(count) => Ok(Some(InstName { initiator, count })),
             None => Err(LoadFault::Form),
         }
+    }
+
+    /// Sixty-four names of instances, where there are some, after how many there are.
+    pub fn names(&mut self) -> Result<[Option<InstName>; 64], LoadFault>
+        ensures read { (xs : List (Option InstName)) (after : List ℕ) → length xs ≡ 64 → All IsNameIfAny xs →
+            self.old.rest.now ≡ counted of_name xs ++ after → IsRead xs after result self.new.rest.now }
+        ensures form { IfErr result (λ f. f ≡ fault.Form) }
+    {
+        if self.next()? != 64 {
+            return Err(LoadFault::Form);
+        }
+        let mut names = [None; 64];
+        for place in 0..64 {
+            names[place] = self.name()?;
+        }
+        Ok(names)
     }
 
     /// Pairs of a process and a label, after how many there are.
@@ -189,8 +217,9 @@ impl<'a> Numbers<'a> {
 
     /// Sixty-four numbers, after how many there are.
     pub(crate) fn row(&mut self) -> Result<[u64; 64], LoadFault>
-        ensures { (xs after : List ℕ) → IsRow xs → self.old.rest.now ≡ of_list xs ++ after →
+        ensures read { (xs after : List ℕ) → IsRow xs → self.old.rest.now ≡ of_list xs ++ after →
             IsRead xs after result self.new.rest.now }
+        ensures form { IfErr result (λ f. f ≡ fault.Form) }
     {
         let count = self.next()?;
         if count != 64 || self.rest.len() < 64 {

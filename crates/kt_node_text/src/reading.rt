@@ -6,14 +6,16 @@ ghost use Rattle.kt_node.specs.declared.reach.Reach.{Reach};
 ghost use Rattle.kt_node.specs.declared.reach.Reaches.{Reaches};
 ghost use Rattle.kt_node.specs.Managers.{ManagerState, IsSoundManager};
 ghost use Rattle.kt_node.specs.Links.{NodeLinks};
+ghost use Rattle.kt_node.specs.OwnParts.{HasOwnPart};
 ghost use Rattle.kt_node_text.specs.Form.{of_manager, of_reach, of_reaches, numbers_of};
 ghost use Rattle.kt_node_text.specs.Ranges.{IsManager, IsRow, AreReaches};
 ghost use Rattle.kt_node_text.specs.Reading.{IsRead, IsReadAs};
-ghost use Rattle.kt_node_text.specs.Sameness.{IsSound};
+ghost use Rattle.kt_node_text.specs.Sameness.{IsOwn};
 ghost use Rattle.kt_node_text.specs.declared.fault.LoadFault.TheVariants as fault;
 
 use crate::fault::LoadFault;
 use crate::numbers::Numbers;
+use crate::sets::set_of;
 use crate::writing::VERSION;
 use kt_base::ProcNo;
 use kt_node::{Manager, ManagerParts, Node, Reach, Reaches};
@@ -43,8 +45,9 @@ fn place(numbers: &mut Numbers) -> Result<(usize, ProcNo), LoadFault>
 
 /// A manager.
 fn manager(alloc: Global, numbers: &mut Numbers) -> Result<Manager, LoadFault>
-    ensures { (w : ManagerState) (after : List ℕ) →
-        IsSoundManager w → ProcessFits w.process → IsManager w →
+    ensures own { IfOk result (λ m. HasOwnPart m) }
+    ensures read { (w : ManagerState) (after : List ℕ) →
+        IsSoundManager w → HasOwnPart w → ProcessFits w.process → IsManager w →
         numbers.old.rest.now ≡ of_manager w ++ after →
         IsReadAs (λ v. of_manager v ≡ of_manager w) after result numbers.new.rest.now }
 {
@@ -54,6 +57,8 @@ fn manager(alloc: Global, numbers: &mut Numbers) -> Result<Manager, LoadFault>
     let process = process(alloc, size, numbers)?;
     let held = lists(alloc, size, me, numbers)?;
     let kept = lists(alloc, size, me, numbers)?;
+    let asks = numbers.names()?;
+    let answered = set_of(numbers.next()?);
     let parts = ManagerParts {
         me,
         process,
@@ -61,6 +66,8 @@ fn manager(alloc: Global, numbers: &mut Numbers) -> Result<Manager, LoadFault>
         begun,
         held,
         kept,
+        asks,
+        answered,
     };
     Manager::of(parts).ok_or(LoadFault::Form)
 }
@@ -93,9 +100,10 @@ fn reaches(numbers: &mut Numbers) -> Result<Reaches, LoadFault>
 
 /// The node whose numbers begin so.
 pub(crate) fn node_of(alloc: Global, numbers: &[u64]) -> Result<Node, LoadFault>
-    ensures ok { (w : NodeLinks) → IsSound w → numbers.now ≡ numbers_of w →
+    ensures own { IfOk result (λ v. HasOwnPart v.manager) }
+    ensures ok { (w : NodeLinks) → IsOwn w → numbers.now ≡ numbers_of w →
         IfOk result (λ v. numbers_of v ≡ numbers.now) }
-    ensures form { IsErrOf result fault.Form → (w : NodeLinks) → IsSound w →
+    ensures form { IsErrOf result fault.Form → (w : NodeLinks) → IsOwn w →
         numbers.now ≡ numbers_of w → ⊥ }
 {
     let mut numbers = Numbers::new(numbers);

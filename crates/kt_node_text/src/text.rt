@@ -1,21 +1,23 @@
 //! A node as bytes, and a node of bytes.
 
 ghost use Rattle.std.specs.Prelude.{◌≡◌, ◌++◌, IfOk, OnOk, OnErr, IsErrOf};
-ghost use Rattle.kt_node_text.specs.Form.{bytes_of, numbers_of};
-ghost use Rattle.kt_node_text.specs.Sameness.{IsSound, IsSameState};
+ghost use Rattle.kt_checksum.specs.Checksums.{DifferInOneByte};
+ghost use Rattle.kt_node_text.specs.Form.{text_of};
+ghost use Rattle.kt_node_text.specs.Sameness.{IsSound, IsOwn, IsSameState};
 ghost use Rattle.kt_node.specs.Links.{NodeLinks};
 ghost use Rattle.kt_node_text.specs.declared.fault.LoadFault.TheVariants as fault;
 
 use crate::fault::LoadFault;
 use crate::{bytes, reading, writing};
 use kt_base::Memory;
+use kt_checksum::unsealed;
 use kt_node::Node;
 use std::alloc::Global;
 
 /// Adds the text of a node's state at the end.
 pub fn save(node: &Node, out: &mut Vec<u8>) -> Result<(), Memory>
     ensures sound { OnOk result (IsSound node.now) }
-    ensures ok { OnOk result (out.new.items ≡ out.old.items ++ bytes_of (numbers_of node.now)) }
+    ensures ok { OnOk result (out.new.items ≡ out.old.items ++ text_of node.now) }
     ensures err { OnErr result (out.new.items ≡ out.old.items) }
 {
     let numbers = writing::numbers_of(*out.allocator(), node)?;
@@ -24,16 +26,23 @@ pub fn save(node: &Node, out: &mut Vec<u8>) -> Result<(), Memory>
 
 /// The node whose text these bytes are.
 pub fn load(alloc: Global, bytes: &[u8]) -> Result<Node, LoadFault>
-    ensures sound { IfOk result (λ node. IsSound node) }
-    ensures ok { IfOk result (λ node. bytes.now ≡ bytes_of (numbers_of node)) }
+    ensures sound { IfOk result (λ node. IsOwn node) }
+    ensures ok { IfOk result (λ node. bytes.now ≡ text_of node) }
 
     // What was saved of a node is read as the same state, unless memory runs out.
-    ensures same { (w : NodeLinks) → IsSound w → bytes.now ≡ bytes_of (numbers_of w) →
+    ensures own { (w : NodeLinks) → IsOwn w → bytes.now ≡ text_of w →
         IfOk result (λ node. IsSameState w node) }
-    ensures form { IsErrOf result fault.Form → (w : NodeLinks) → IsSound w →
-        bytes.now ≡ bytes_of (numbers_of w) → ⊥ }
+    ensures form { IsErrOf result fault.Form → (w : NodeLinks) → IsOwn w →
+        bytes.now ≡ text_of w → ⊥ }
+
+    // A text of which one byte was changed, in one bit or more, is refused.
+    ensures changed { (w : NodeLinks) → IsSound w → DifferInOneByte (text_of w) bytes.now →
+        IsErrOf result fault.Form }
 {
-    let numbers = bytes::numbers_of(alloc, bytes)?;
+    let Some(text) = unsealed(bytes) else {
+        return Err(LoadFault::Form);
+    };
+    let numbers = bytes::numbers_of(alloc, text)?;
     let node = reading::node_of(alloc, &numbers)?;
     let again = writing::numbers_of(alloc, &node)?;
     if again.as_slice() == numbers.as_slice() {

@@ -4,7 +4,7 @@ ghost use Rattle.std.specs.Prelude.{◌≡◌, ◌<◌, ◌++◌, ◌∷◌, [],
 ghost use Rattle.std.specs.Option.{option_copied};
 ghost use Rattle.kt_node_text.specs.Form.{of_optional, of_flag, of_list, counted, of_pair, of_body, of_kind, of_parcel, of_lists, of_tables, of_part, of_side, of_process, of_name, of_manager, of_reach, of_reaches, numbers_of};
 ghost use Rattle.kt_base.specs.Numbers.{IsProcNo};
-ghost use Rattle.kt_node_text.specs.Ranges.{IsPair, IsPart, IsSide, IsState, IsProcess, IsName, IsParcel, AreLists, IsManager, IsRow, AreReaches, IsNode};
+ghost use Rattle.kt_node_text.specs.Ranges.{IsPair, IsPart, IsSide, IsState, IsProcess, IsNameIfAny, IsParcel, AreLists, IsManager, IsRow, AreReaches, IsNode};
 ghost use Rattle.kt_node_text.specs.Sameness.{IsSound};
 ghost use Rattle.kt_process.specs.ProcessStates.{ProcessFits};
 ghost use Rattle.kt_node.specs.Managers.{IsSoundManager};
@@ -22,7 +22,7 @@ use kt_tables::Tables;
 use std::alloc::Global;
 
 /// The version of the form.
-pub(crate) const VERSION: u64 = 1;
+pub(crate) const VERSION: u64 = 2;
 
 /// One more than the number of a process, 0 for none.
 fn optional(process: Option<ProcNo>) -> u64
@@ -142,13 +142,25 @@ fn put_process(out: &mut Vec<u64>, process: &Process) -> Result<(), Memory>
 /// Adds the name of an instance, if there is one.
 fn put_name(out: &mut Vec<u64>, inst: Option<InstName>) -> Result<(), Memory>
     ensures numbers { OnOk result (out.new.items ≡ out.old.items ++ of_name inst) }
-    ensures range { OnOk result (IfSome inst IsName) }
+    ensures range { OnOk result (IsNameIfAny inst) }
 {
     match inst {
         None => out.push(0)?,
         Some(name) => {
             out.extend_from_slice(&[1, u64::from(name.initiator.get()), name.count.get()])?;
         }
+    }
+    Ok(())
+}
+
+/// Adds names of instances, where there are some, after how many there are.
+fn put_names(out: &mut Vec<u64>, names: &[Option<InstName>]) -> Result<(), Memory>
+    ensures numbers { OnOk result (out.new.items ≡ out.old.items ++ counted of_name names.now) }
+    ensures range { OnOk result (All IsNameIfAny names.now) }
+{
+    out.push(names.len() as u64)?;
+    for name in names {
+        put_name(out, *name)?;
     }
     Ok(())
 }
@@ -227,7 +239,10 @@ fn put_manager(out: &mut Vec<u64>, manager: &Manager) -> Result<(), Memory>
     put_name(out, manager.in_inst())?;
     put_process(out, manager.process())?;
     put_lists(out, manager.held(), me)?;
-    put_lists(out, manager.kept(), me)
+    put_lists(out, manager.kept(), me)?;
+    put_names(out, manager.asks())?;
+    out.push(bits_of(manager.answered()))?;
+    Ok(())
 }
 
 /// Adds how far messages go.

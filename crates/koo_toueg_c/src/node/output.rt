@@ -32,7 +32,8 @@ pub struct KtAct {
 #[derive(Clone, Copy)]
 pub struct KtOutput {
     /// Why there is no step: 1 the bytes are those of no node, 2 the numbers mean no input, 3 `Unknown`, 4 `Itself`, 5 `Waits`,
-    /// 6 `HeldFirst`, 7 `HoldsNone`, 8 `LabelsSpent`, 9 `CountsSpent`, 10 `ClockSpent`, 11 `Gap`, 12 there was no memory.
+    /// 6 `HeldFirst`, 7 `HoldsNone`, 8 `LabelsSpent`, 9 `CountsSpent`, 10 `ClockSpent`, 11 `Gap`, 12 there was no memory,
+    /// 13 `Astray`, 14 `Leap`, 15 `Stale`, 16 `NotBegun`.
     pub fault: u32,
     /// Which process it is of, 0 to 63.
     pub process: u32,

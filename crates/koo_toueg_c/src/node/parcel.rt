@@ -13,6 +13,10 @@ use kt_spacetime::{Count, InstName};
 pub struct KtParcel {
     /// 1 a message, 2 an ask, 3 a reply, 4 a decision; 0 no parcel.
     pub kind: u32,
+    /// Its sender, 0 to 63.
+    pub from: u32,
+    /// Its receiver, 0 to 63.
+    pub to: u32,
     /// Who began the instance, 0 to 63.
     pub initiator: u32,
     /// Whether an ask is of a rollback.
@@ -75,6 +79,8 @@ impl KtParcel {
     {
         KtParcel {
             kind: 0,
+            from: 0,
+            to: 0,
             initiator: 0,
             rollback: 0,
             yes: 0,
@@ -93,6 +99,8 @@ impl KtParcel {
     {
         match envelope {
             Some(envelope) => KtParcel {
+                from: u32::from(envelope.from.get()),
+                to: u32::from(envelope.to.get()),
                 number: envelope.number,
                 clock: envelope.clock,
                 ..KtParcel::told(&envelope.parcel)
@@ -142,8 +150,12 @@ impl KtParcel {
     pub(crate) fn envelope(&self) -> Option<Envelope>
         ensures { result ≡ envelope_meant self.now }
     {
+        let from = process_meant(self.from)?;
+        let to = process_meant(self.to)?;
         let parcel = self.meant()?;
         Some(Envelope {
+            from,
+            to,
             number: self.number,
             clock: self.clock,
             parcel,

@@ -1,6 +1,6 @@
 //! Why a node takes no step, in numbers.
 
-ghost use Rattle.std.specs.Prelude.{◌≡◌, ◌≤◌};
+ghost use Rattle.std.specs.Prelude.{◌≡◌, ◌≢◌, ◌≤◌};
 ghost use Rattle.koo_toueg_c.specs.NodeNumbers.{expected_number, manager_number, refusal_number, refusal_status};
 ghost use Rattle.koo_toueg_c.specs.declared.node.refusal.Refusal.TheVariants as refusal;
 
@@ -56,6 +56,7 @@ impl Refusal {
         ensures exact { result ≡ refusal_status self.now }
         ensures refused { 2 ≤ result }
         ensures few { result ≤ 4 }
+        ensures other { result ≢ 3 }
     {
         match self {
             Refusal::Memory | Refusal::Node(NodeFault::Manager(ManagerFault::Memory)) => 4,
@@ -74,6 +75,9 @@ impl Refusal {
             Refusal::Node(NodeFault::ClockSpent) => 10,
             Refusal::Node(NodeFault::Gap(_)) => 11,
             Refusal::Memory => 12,
+            Refusal::Node(NodeFault::Astray) => 13,
+            Refusal::Node(NodeFault::Leap) => 14,
+            Refusal::Node(NodeFault::Stale) => 15,
         }
     }
 
@@ -100,5 +104,6 @@ fn manager_number(fault: &ManagerFault) -> u32
         ManagerFault::LabelsSpent => 8,
         ManagerFault::CountsSpent => 9,
         ManagerFault::Memory => 12,
+        ManagerFault::NotBegun => 16,
     }
 }

@@ -1,14 +1,13 @@
 //! Steps of a node that is bytes.
 
-ghost use Rattle.std.specs.Prelude.{◌≡◌, ◌≤◌, ◌-◌, ◌^◌, ℕ, max, IfOk, IfErr, IsErrOf};
-ghost use Rattle.kt_tables.specs.Calls.{Speaks};
+ghost use Rattle.std.specs.Prelude.{◌≡◌, ◌≤◌, ◌-◌, ◌^◌, max, IfOk, IfErr, IsErrOf};
 ghost use Rattle.kt_node.specs.Nodes.{NodeState};
 ghost use Rattle.kt_node.specs.Faults.{fault_at};
-ghost use Rattle.kt_node.specs.Links.{IsParcelRefusedAs, IsStep, IsUntaken};
-ghost use Rattle.kt_node.specs.Looks.{clock_of, input_of};
+ghost use Rattle.kt_node.specs.Links.{IsMetAs, IsParcelRefusedAs, IsStep, IsUntaken, ShowsLinks};
+ghost use Rattle.kt_node.specs.Looks.{clock_of, input_of, meeting_at};
 ghost use Rattle.kt_node.specs.Managers.{ShowsNode};
 ghost use Rattle.kt_node.specs.declared.node.NodeFault.TheVariants as fault;
-ghost use Rattle.koo_toueg_c.specs.Nodes.{IsGapAt, IsNoStep, IsTaken, SaysNode, TakesInOrder, rule_at};
+ghost use Rattle.koo_toueg_c.specs.Nodes.{IsNoStep, IsTaken, SavesNode, TakesInOrder};
 
 use crate::node::input::KtInput;
 use crate::node::refusal::Refusal;
@@ -27,7 +26,7 @@ pub(crate) struct Step {
 
 /// The bytes of a node.
 pub(crate) fn bytes_of(alloc: Global, node: &Node) -> Result<Vec<u8>, Memory>
-    ensures { IfOk result (λ bytes. SaysNode bytes.items node.now) }
+    ensures { IfOk result (λ bytes. SavesNode bytes.items node.now) }
 {
     let mut bytes = Vec::new(alloc);
     save(node, &mut bytes)?;
@@ -62,17 +61,14 @@ pub(crate) fn stepped(
 
 // A node takes what comes to it.
 fn take(alloc: Global, node: &mut Node, input: &Input, able: bool) -> Result<Taken, NodeFault>
-    ensures done { (y : NodeState) → ShowsNode node.old.manager y →
-        Speaks ((rule_at y able input.now).state.calls) →
-        IfOk result (λ t. IsUntaken t
+    ensures done { (y : NodeState) → ShowsLinks node.old y → IfOk result (λ t. IsUntaken t
         (IsStep node.old node.new (clock_of input.now) y (input_of able input.now))) }
     ensures next { IfOk result (TakesInOrder node.old node.new input.now) }
+    ensures met { IsMetAs (meeting_at node.old input.now) result }
     ensures refused { (y : NodeState) → ShowsNode node.old.manager y →
         IsParcelRefusedAs (fault_at y (input_of able input.now)) result }
     ensures spent { IsErrOf result fault.ClockSpent →
         2 ^ 64 - 2 ≤ max node.old.clock (clock_of input.now) }
-    ensures gap { (n : ℕ) (y : NodeState) → ShowsNode node.old.manager y →
-        IsErrOf result (fault.Gap n) → IsGapAt node.old input.now n }
 {
     match input {
         Input::Send { to, body } => Ok(Taken::Step(node.send(*to, *body)?)),

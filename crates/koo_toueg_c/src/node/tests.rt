@@ -83,6 +83,7 @@ fn sends(rt: HostRuntime) {
     assert!(rt; told.rows[1].kind == 0 && told.acts[0].kind == 0 && told.parcels[0].kind == 0);
     let parcel = told.parcels[1];
     assert!(rt; parcel.kind == 1 && parcel.number == 1 && parcel.clock == 1 && parcel.label == 1);
+    assert!(rt; parcel.from == 0 && parcel.to == 1);
     let early = KtParcel {
         number: 2,
         ..parcel
@@ -94,6 +95,8 @@ fn sends(rt: HostRuntime) {
     let act = one.output.acts[0];
     assert!(rt; act.kind == 1 && act.from == 0 && act.body == -7);
     assert!(rt; one.step(rt.alloc(), &coming(0, parcel)) == 1 && one.output.clock == 0);
+    let stale = coming(0, early);
+    assert!(rt; one.step(rt.alloc(), &stale) == 2 && one.output.fault == 15);
 }
 
 #[test]
@@ -124,12 +127,53 @@ fn saves(rt: HostRuntime) {
 fn refuses(rt: HostRuntime) {
     let mut node = opened(rt.alloc(), 0);
     let before = node.len.min(4096);
+    let message = KtParcel {
+        kind: 1,
+        from: 1,
+        number: 1,
+        label: 1,
+        ..KtParcel::none()
+    };
+    let far = 1_099_511_627_777;
     let faults = [
         (command(1, 0), 4),
         (command(1, 2), 3),
         (command(1, 64), 2),
         (command(6, 1), 2),
         (command(4, 1), 7),
+        (coming(1, KtParcel { from: 0, ..message }), 13),
+        (coming(1, KtParcel { to: 1, ..message }), 13),
+        (coming(1, KtParcel { to: 64, ..message }), 2),
+        (
+            coming(
+                1,
+                KtParcel {
+                    number: u64::MAX,
+                    ..message
+                },
+            ),
+            11,
+        ),
+        (
+            coming(
+                1,
+                KtParcel {
+                    clock: far,
+                    ..message
+                },
+            ),
+            14,
+        ),
+        (
+            coming(
+                1,
+                KtParcel {
+                    label: far,
+                    ..message
+                },
+            ),
+            14,
+        ),
     ];
     for (input, fault) in &faults {
         assert!(rt; node.step(rt.alloc(), input) == 2 && node.output.fault == *fault);

@@ -11,7 +11,7 @@ ghost use Rattle.kt_node.specs.Links.{NodeLinks, IsSameNode};
 ghost use Rattle.kt_node.specs.Clusters.{link, step_of, IsFront, IsTurn, IsSpeakable, coming, IsRefusedIn};
 
 use super::{ClusterFault, ClusterStep, OnWay};
-use crate::node::{Envelope, Node, Output, Taken};
+use crate::node::{Node, Output};
 use kt_base::{Memory, ProcNo};
 use kt_spacetime::{ClockedRow, NamedEvent, NamedRow};
 use std::alloc::Global;
@@ -125,24 +125,15 @@ fn take(
     ensures left { OnErr result (on_way.new.items ≡ on_way.old.items) }
 {
     if node.manager().holds_next(from) {
-        return Ok(node.redeliver(from)?);
+        return Ok(node.take_held(from)?);
     }
     let Some(place) = front(on_way, from, at) else {
         return Err(ClusterFault::NothingToTake);
     };
     let first = on_way[place];
-    let envelope = Envelope {
-        number: node.next(from),
-        clock: first.clock,
-        parcel: first.parcel,
-    };
-    match node.deliver(alloc, from, able, &envelope)? {
-        Taken::Step(output) => {
-            on_way.remove(place);
-            Ok(output)
-        }
-        Taken::Again => unreachable!(),
-    }
+    let output = node.take(alloc, from, able, first.clock, &first.parcel)?;
+    on_way.remove(place);
+    Ok(output)
 }
 
 /// A node makes a step, which may take the front of a link.

@@ -1,6 +1,6 @@
 //! Instances begun, joined and closed.
 
-ghost use Rattle.std.specs.Prelude.{◌≡◌, ◌<◌, ◌+◌, ◌^◌, ℕ, true, Bool, Some, None, [], ◌∷◌, ◌++◌, IfOk, OnOk, OnErr};
+ghost use Rattle.std.specs.Prelude.{◌≡◌, ◌<◌, ◌+◌, ◌^◌, ℕ, true, false, Bool, Some, None, [], ◌∷◌, ◌++◌, IfOk, OnOk, OnErr};
 ghost use Rattle.kt_base.specs.Sets.{has};
 ghost use Rattle.kt_base.specs.declared.words.Kind.TheVariants as kind;
 ghost use Rattle.kt_meaning.specs.Past.{is_rollback_kind};
@@ -11,17 +11,17 @@ ghost use Rattle.kt_process.specs.Shown.{IsSeenAs, goes_on};
 ghost use Rattle.kt_node.specs.Nodes.{NodeState, Begin, nothing};
 ghost use Rattle.kt_node.specs.NodeJoining.{next_name};
 ghost use Rattle.kt_node.specs.NodeClosing.{closing, settling};
-ghost use Rattle.kt_node.specs.NodeSteps.{node_after, asked, taking};
+ghost use Rattle.kt_node.specs.NodeSteps.{node_after, asked, taking, awaits, heeds};
 ghost use Rattle.kt_node.specs.declared.parcels.NodeParcel.TheVariants as put;
 ghost use Rattle.kt_system.specs.ShownActs.{act_shown, acts_shown, acts_joining};
 ghost use Rattle.kt_system.specs.Shown.{begin_verb};
-ghost use Rattle.kt_node.specs.Managers.{HoldsFor, ShowsNode, HasBack, IsSameManager, IsTurned, process_of, after_closing};
+ghost use Rattle.kt_node.specs.Managers.{HoldsFor, HasAnswered, ShowsNode, HasBack, IsSameManager, IsTurned, process_of, after_closing};
 ghost use Rattle.kt_node.specs.Turns.{BeginsIn, HearsIn, CanGoOn, CanFollow, named_cause, unwilling_row, joined_row, joined_in, gone_on};
 ghost use Rattle.kt_node.specs.Effects.{IsDone, rows_told};
 ghost use Rattle.kt_node.specs.Faults.{fault_at, IsRefusedAs};
 
 use super::messages::refusal;
-use super::{Manager, here};
+use super::{Manager, here, is_one};
 use crate::effects::{Effects, NO_ACTS, Parcels};
 use crate::faults::ManagerFault;
 use crate::parcels::NodeParcel;
@@ -86,7 +86,7 @@ impl Manager {
         requires left { self.old.begun + 1 < 2 ^ 48 }
         requires can { CanFollow self.old action }
         ensures { (y : NodeState) (able : Bool) → HoldsFor self.old y → self.old.inst ≡ y.inst →
-            inst.now ≡ next_name y →
+            HasAnswered self.old y → inst.now ≡ next_name y →
             BeginsIn kind able y self.old.process action →
             IsDone self.new result (node_after y (Begin (is_rollback_kind (Some kind)) able)) }
     {
@@ -116,6 +116,7 @@ impl Manager {
         ensures err { OnErr result (IsSameManager self.new self.old) }
     {
         let action = self.hear(alloc, from, ask, able)?;
+        self.asks[from.index()] = Some(ask.inst);
         Ok(self.answer(from, ask, action))
     }
 
@@ -176,9 +177,10 @@ impl Manager {
     fn answer(&mut self, from: ProcNo, ask: &Ask, action: Action) -> Effects
         requires { CanFollow self.old action }
         ensures { (y : NodeState) (able : Bool) → HoldsFor self.old y → self.old.inst ≡ y.inst →
+            HasAnswered self.old y →
             HearsIn ask.now.kind able from ask.now.inst ask.now.label y self.old.process action →
-            IsDone self.new result
-            (taking y from able (put.Ask ask.now.inst ask.now.kind ask.now.label)) }
+            IsDone self.new result (asked y.inst y from able ask.now.inst
+            (is_rollback_kind (Some ask.now.kind)) ask.now.label) }
     {
         match action {
             Action::Reply {
@@ -227,10 +229,12 @@ impl Manager {
         ensures { (y : NodeState) (label : ℕ → ℕ) → HoldsFor self.old y →
             IsSeenAs self.old.process (process_of y) → y.inst ≡ Some inst.now →
             IsCohort asks y.part.asked label → goes ≡ goes_on y.part → y.part.willing ≡ true →
+            ((q : ℕ) → y.answered q ≡ false) →
             IsDone self.new result
             (settling inst.now (joined_in inst.now kind label (rows_told (began ∷ [])) y)) }
     {
         self.inst = Some(*inst);
+        self.answered = ProcSet::empty();
         let row = Some(joining_row(inst, kind));
         let act = joining_act(kind);
         match goes {
@@ -275,17 +279,37 @@ impl Manager {
     }
 
     /// A reply comes: it counts where it is awaited, and the last one is followed by its own reply, or by the decision.
-    pub(super) fn take_reply(&mut self, inst: &InstName, willing: bool) -> Result<Effects, Memory>
-        ensures done { (y : NodeState) (q : ℕ) (able : Bool) → ShowsNode self.old y →
-            IfOk result (λ e. IsDone self.new e (taking y q able (put.Reply inst.now willing))) }
+    pub(super) fn take_reply(
+        &mut self,
+        from: ProcNo,
+        inst: &InstName,
+        willing: bool,
+    ) -> Result<Effects, Memory>
+        ensures done { (y : NodeState) (able : Bool) → ShowsNode self.old y →
+            IfOk result (λ e. IsDone self.new e (taking y from able (put.Reply inst.now willing))) }
         ensures err { OnErr result (IsSameManager self.new self.old) }
     {
-        if !self.is_in(inst) {
+        if !self.awaits(from, inst) {
             return Ok(Effects::none());
         }
         self.make_room_back()?;
+        self.answered = self.answered.with(from);
         let action = self.process.hear_reply(willing);
         Ok(self.go_on(inst, &action))
+    }
+
+    /// Whether it is in this instance, and awaits a reply of a process.
+    fn awaits(&self, from: ProcNo, inst: &InstName) -> bool
+        ensures { (y : NodeState) → ShowsNode self.now y → result ≡ awaits y from inst.now }
+    {
+        let awaited = match self.process.part() {
+            Some(part) => part.awaited(),
+            None => 0,
+        };
+        self.is_in(inst)
+            && awaited != 0
+            && self.process.asked().has(from)
+            && !self.answered.has(from)
     }
 
     /// What follows from a reply.
@@ -324,17 +348,33 @@ impl Manager {
         }
     }
 
-    /// A decision comes: that of its instance closes it.
-    pub(super) fn take_decision(&mut self, inst: &InstName, commit: bool) -> Result<Effects, Memory>
-        ensures done { (y : NodeState) (q : ℕ) (able : Bool) → ShowsNode self.old y →
-            IfOk result (λ e. IsDone self.new e (taking y q able (put.Decide inst.now commit))) }
+    /// A decision comes: that of its instance closes it, where it comes of who asked it last to join.
+    pub(super) fn take_decision(
+        &mut self,
+        from: ProcNo,
+        inst: &InstName,
+        commit: bool,
+    ) -> Result<Effects, Memory>
+        ensures done { (y : NodeState) (able : Bool) → ShowsNode self.old y →
+            IfOk result (λ e. IsDone self.new e (taking y from able (put.Decide inst.now commit))) }
         ensures err { OnErr result (IsSameManager self.new self.old) }
     {
-        if !self.is_in(inst) {
+        if !self.heeds(from, inst) {
             return Ok(Effects::none());
         }
         self.make_room_back()?;
         Ok(self.close(inst, commit, None))
+    }
+
+    /// Whether it is in this instance, and a process asked it last to join this one.
+    fn heeds(&self, from: ProcNo, inst: &InstName) -> bool
+        ensures { (y : NodeState) → ShowsNode self.now y → result ≡ heeds y from inst.now }
+    {
+        let asked = match &self.asks[from.index()] {
+            Some(name) => is_one(name, inst),
+            None => false,
+        };
+        self.is_in(inst) && asked
     }
 
     /// It closes its instance, and tells the decision to those that it asked.
@@ -379,6 +419,7 @@ impl Manager {
     fn settle_kept(&mut self, commit: bool)
         requires { is_ready self.old.process.side ≡ true → HasBack self.old }
         ensures process { self.new.process ≡ self.old.process }
+        ensures answered { self.new.answered ≡ self.old.answered }
         ensures settled { (y : NodeState) → ShowsNode self.old y → (y.inst ≡ None → ⊥) →
             HoldsFor self.new (after_closing commit y) }
     {

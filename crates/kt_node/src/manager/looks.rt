@@ -4,9 +4,8 @@ ghost use Rattle.std.specs.Prelude.{◌≡◌, ◌<◌, ◌&&◌, ℤ, Bool, tru
 ghost use Rattle.kt_process.specs.ProcessStates.{inst_of};
 ghost use Rattle.kt_node.specs.Nodes.{NodeState, Send, Begin, Held, Comes};
 ghost use Rattle.kt_node.specs.NodeLooks.{asks_to_save, would_save};
-ghost use Rattle.kt_node.specs.declared.parcels.NodeParcel.{NodeParcel as Taken};
 ghost use Rattle.kt_node.specs.Managers.{ShowsNode};
-ghost use Rattle.kt_node.specs.Faults.{stranger, fault_at};
+ghost use Rattle.kt_node.specs.Faults.{stranger, parcel_fault, fault_at};
 ghost use Rattle.kt_node.specs.Looks.{input_of, look_of};
 
 use super::Manager;
@@ -42,7 +41,7 @@ impl Manager {
             Input::Begin(_) => self.may_begin(),
             Input::Fail => true,
             Input::Redeliver(from) => self.may_take_held(*from),
-            Input::Deliver { from, .. } => self.may_take(*from),
+            Input::Deliver { from, envelope } => self.may_take(*from, &envelope.parcel),
         }
     }
 
@@ -122,10 +121,24 @@ impl Manager {
     }
 
     /// Whether it may take a parcel of a process.
-    fn may_take(&self, from: ProcNo) -> bool
-        ensures { (y : NodeState) (able : Bool) (parcel : Taken) → ShowsNode self.now y →
-            result ≡ is_none (fault_at y (Comes from able parcel)) }
+    fn may_take(&self, from: ProcNo, parcel: &NodeParcel) -> bool
+        ensures { (y : NodeState) (able : Bool) → ShowsNode self.now y →
+            result ≡ is_none (fault_at y (Comes from able parcel.now)) }
     {
-        self.is_other(from) && (self.is_in_rollback() || !self.holds(from))
+        self.is_other(from) && (self.is_in_rollback() || !self.holds(from)) && self.may_hear(parcel)
+    }
+
+    /// Whether a parcel is no ask, or one to join an instance that its initiator is in.
+    pub(super) fn may_hear(&self, parcel: &NodeParcel) -> bool
+        ensures { (y : NodeState) → ShowsNode self.now y →
+            result ≡ is_none (parcel_fault y parcel.now) }
+    {
+        match parcel {
+            NodeParcel::Ask { inst, .. } => {
+                inst.initiator.index() < self.size
+                    && (inst.initiator.get() != self.me.get() || self.is_in(inst))
+            }
+            _ => true,
+        }
     }
 }

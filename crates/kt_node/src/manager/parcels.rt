@@ -1,11 +1,11 @@
 //! Any parcel.
 
 ghost use Rattle.std.specs.Prelude.{◌≡◌, IfOk, OnErr};
-ghost use Rattle.kt_tables.specs.Calls.{Speaks};
 ghost use Rattle.kt_node.specs.Nodes.{NodeState, Comes};
 ghost use Rattle.kt_node.specs.NodeSteps.{node_after};
 ghost use Rattle.kt_node.specs.Managers.{ShowsNode, IsSameManager};
 ghost use Rattle.kt_node.specs.Effects.{IsDone};
+ghost use Rattle.kt_node.specs.Links.{IsSpoken};
 ghost use Rattle.kt_node.specs.Faults.{fault_at, IsRefusedAs};
 
 use super::Manager;
@@ -26,7 +26,7 @@ impl Manager {
         parcel: &NodeParcel,
     ) -> Result<Effects, ManagerFault>
         ensures done { (y : NodeState) → ShowsNode self.old y →
-            Speaks ((node_after y (Comes from able parcel.now)).state.calls) →
+            IsSpoken y from able parcel.now →
             IfOk result (λ e. IsDone self.new e (node_after y (Comes from able parcel.now))) }
         ensures refused { (y : NodeState) → ShowsNode self.old y →
             IsRefusedAs (fault_at y (Comes from able parcel.now)) result }
@@ -36,13 +36,16 @@ impl Manager {
         if !self.is_in_rollback() && self.holds(from) {
             return Err(ManagerFault::HeldFirst);
         }
+        if !self.may_hear(parcel) {
+            return Err(ManagerFault::NotBegun);
+        }
         match *parcel {
             NodeParcel::App { label, body } => Ok(self.take_message(from, label, body)?),
             NodeParcel::Ask { inst, kind, label } => {
                 Ok(self.take_ask(alloc, from, &Ask { inst, kind, label }, able)?)
             }
-            NodeParcel::Reply { inst, willing } => Ok(self.take_reply(&inst, willing)?),
-            NodeParcel::Decide { inst, commit } => Ok(self.take_decision(&inst, commit)?),
+            NodeParcel::Reply { inst, willing } => Ok(self.take_reply(from, &inst, willing)?),
+            NodeParcel::Decide { inst, commit } => Ok(self.take_decision(from, &inst, commit)?),
         }
     }
 }

@@ -66,3 +66,7 @@ returns-clause-undone c = refl
 pub returns-clause-clocks : goal.returns-clause-clocks
 unfolding must_take must_roll is_asked_in_checkpoint checkpoint_label is_asked_in_rollback rollback_label count_peers
 returns-clause-clocks c = refl
+
+pub returns-clause-overtaken : goal.returns-clause-overtaken
+unfolding must_take must_roll is_asked_in_checkpoint checkpoint_label is_asked_in_rollback rollback_label count_peers
+returns-clause-overtaken c = refl

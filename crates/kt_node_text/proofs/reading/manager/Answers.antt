@@ -1,29 +1,41 @@
-use Rattle.std.proofs.Common.{◌≡◌, ◌∙◌, ◌∷◌, ◌++◌, ℕ, List, sym, ap, subst, append_assoc}
+use Rattle.std.proofs.Common.{◌≡◌, ◌∙◌, ◌∷◌, ◌++◌, [], ℕ, List, sym, ap, subst, append_assoc}
 use Rattle.kt_fifo.specs.Channels.{ChannelLists}
 use Rattle.kt_node.specs.Managers.{ManagerState}
-use Rattle.kt_node_text.specs.Form.{of_name, of_process, of_lists, of_manager}
+use Rattle.kt_node_text.specs.Form.{of_name, of_process, of_lists, of_manager, counted}
 use Rattle.kt_node_text.specs.Ranges.{AreLists}
 use Rattle.kt_node_text.proofs.OneAfterAnother.{stops, is_made}
-use Rattle.kt_node_text.proofs.MadeAgain.{IsReadManager, sound_again, manager_again}
+use Rattle.kt_node_text.proofs.MadeAgain.{IsReadManager, sound_again, own_again, manager_again}
 use Rattle.kt_node_text.proofs.reading.manager.Goals as goal
 
 -- the numbers of a manager from its name on, from its process on, and from what it holds on
+abbrev from_asks : ManagerState → List ℕ
+from_asks w = counted of_name w.asks ++ w.answered ∷ []
+
+abbrev lists_of : ManagerState → List ℕ
+lists_of w = of_lists w.size w.me w.held ++ (of_lists w.size w.me w.kept ++ from_asks w)
+
 abbrev from_name : ManagerState → List ℕ → List ℕ
-from_name w after = (of_name w.inst ++ (of_process w.process ++ (of_lists w.size w.me w.held ++ of_lists w.size w.me w.kept))) ++ after
+from_name w after = (of_name w.inst ++ (of_process w.process ++ lists_of w)) ++ after
 
 abbrev from_process : ManagerState → List ℕ → List ℕ
-from_process w after = of_process w.process ++ ((of_lists w.size w.me w.held ++ of_lists w.size w.me w.kept) ++ after)
+from_process w after = of_process w.process ++ (lists_of w ++ after)
+
+abbrev behind_kept : ManagerState → List ℕ → List ℕ
+behind_kept w after = counted of_name w.asks ++ (w.answered ∷ after)
 
 abbrev from_held : ManagerState → List ℕ → List ℕ
-from_held w after = of_lists w.size w.me w.held ++ (of_lists w.size w.me w.kept ++ after)
+from_held w after = of_lists w.size w.me w.held ++ (of_lists w.size w.me w.kept ++ behind_kept w after)
 
 at_process : (w : ManagerState) (after : List ℕ) → from_name w after ≡ of_name w.inst ++ from_process w after
 at_process w after =
-    let lists = of_lists w.size w.me w.held ++ of_lists w.size w.me w.kept in
-    append_assoc (of_name w.inst) (of_process w.process ++ lists) after ∙ ap (λ (l : List ℕ). of_name w.inst ++ l) (append_assoc (of_process w.process) lists after)
+    append_assoc (of_name w.inst) (of_process w.process ++ lists_of w) after ∙ ap (λ (l : List ℕ). of_name w.inst ++ l) (append_assoc (of_process w.process) (lists_of w) after)
 
-at_held : (w : ManagerState) (after : List ℕ) → (of_lists w.size w.me w.held ++ of_lists w.size w.me w.kept) ++ after ≡ from_held w after
-at_held w after = append_assoc (of_lists w.size w.me w.held) (of_lists w.size w.me w.kept) after
+at_held : (w : ManagerState) (after : List ℕ) → lists_of w ++ after ≡ from_held w after
+at_held w after =
+    let held = of_lists w.size w.me w.held in
+    let kept = of_lists w.size w.me w.kept in
+    append_assoc held (kept ++ from_asks w) after
+    ∙ ap (λ (l : List ℕ). held ++ l) (append_assoc kept (from_asks w) after ∙ ap (λ (l : List ℕ). kept ++ l) (append_assoc (counted of_name w.asks) (w.answered ∷ []) after))
 
 -- the same lists for the same process
 moved : (v : ChannelLists) (m n p q : ℕ) (left after : List ℕ) → m ≡ n → p ≡ q → left ≡ of_lists m p v ++ after → left ≡ of_lists n q v ++ after
@@ -32,58 +44,87 @@ moved v m n p q left after e f h = h ∙ (λ i. of_lists (e i) (f i) v ++ after)
 ranged : (v : ChannelLists) (m n p q : ℕ) → m ≡ n → p ≡ q → AreLists m p v → AreLists n q v
 ranged v m n p q e f h = subst (λ (k : ℕ). AreLists k q v) e (subst (λ (k : ℕ). AreLists m k v) f h)
 
-pub returns-in_err-inst : goal.returns-in_err-inst
-returns-in_err-inst c = λ w after sound fits range e.
+pub returns-in_err-inst-clause-read : goal.returns-in_err-inst-clause-read
+returns-in_err-inst-clause-read c = λ w after sound own fits range e.
     let place = c.in_ok-size.ensures.read w.size w.me (w.begun ∷ from_name w after) sound.few sound.me e in
-    let begun = c.in_ok-begun.ensures w.begun (from_name w after) place.1 in
-    stops _ _ _ _ _ c.from_residual-in_err-inst.ensures.1 (c.in_err-inst.ensures w.inst (from_process w after) range.inst (begun.1 ∙ at_process w after))
+    let begun = c.in_ok-begun.ensures.read w.begun (from_name w after) place.1 in
+    stops _ _ _ _ _ c.from_residual-in_err-inst.ensures.1 (c.in_err-inst.ensures.read w.inst (from_process w after) range.inst (begun.1 ∙ at_process w after))
 
-pub returns-in_err-process : goal.returns-in_err-process
-returns-in_err-process c = λ w after sound fits range e.
+pub returns-in_err-process-clause-read : goal.returns-in_err-process-clause-read
+returns-in_err-process-clause-read c = λ w after sound own fits range e.
     let place = c.in_ok-size.ensures.read w.size w.me (w.begun ∷ from_name w after) sound.few sound.me e in
-    let begun = c.in_ok-begun.ensures w.begun (from_name w after) place.1 in
-    let inst = c.in_ok-inst.ensures w.inst (from_process w after) range.inst (begun.1 ∙ at_process w after) in
+    let begun = c.in_ok-begun.ensures.read w.begun (from_name w after) place.1 in
+    let inst = c.in_ok-inst.ensures.read w.inst (from_process w after) range.inst (begun.1 ∙ at_process w after) in
     let size : w.size ≡ c.in_ok-size.size = sym (ap (λ (x : ℕ × ℕ). x.0) place.0) in
     stops _ _ _ _ _ c.from_residual-in_err-process.ensures.1
-    (c.in_err-process.ensures.read w.process ((of_lists w.size w.me w.held ++ of_lists w.size w.me w.kept) ++ after) fits range.process (sound.tables ∙ size) inst.1)
+    (c.in_err-process.ensures.read w.process (lists_of w ++ after) fits range.process (sound.tables ∙ size) inst.1)
 
-pub returns-in_err-held : goal.returns-in_err-held
-returns-in_err-held c = λ w after sound fits range e.
+pub returns-in_err-held-clause-read : goal.returns-in_err-held-clause-read
+returns-in_err-held-clause-read c = λ w after sound own fits range e.
     let place = c.in_ok-size.ensures.read w.size w.me (w.begun ∷ from_name w after) sound.few sound.me e in
-    let begun = c.in_ok-begun.ensures w.begun (from_name w after) place.1 in
-    let inst = c.in_ok-inst.ensures w.inst (from_process w after) range.inst (begun.1 ∙ at_process w after) in
+    let begun = c.in_ok-begun.ensures.read w.begun (from_name w after) place.1 in
+    let inst = c.in_ok-inst.ensures.read w.inst (from_process w after) range.inst (begun.1 ∙ at_process w after) in
     let size : w.size ≡ c.in_ok-size.size = sym (ap (λ (x : ℕ × ℕ). x.0) place.0) in
     let me : w.me ≡ c.in_ok-size.me = sym (ap (λ (x : ℕ × ℕ). x.1) place.0) in
-    let process = c.in_ok-process.ensures.read w.process ((of_lists w.size w.me w.held ++ of_lists w.size w.me w.kept) ++ after) fits range.process (sound.tables ∙ size) inst.1 in
+    let process = c.in_ok-process.ensures.read w.process (lists_of w ++ after) fits range.process (sound.tables ∙ size) inst.1 in
     stops _ _ _ _ _ c.from_residual-in_err-held.ensures.1
-    (c.in_err-held.ensures.read w.held (of_lists w.size w.me w.kept ++ after) (ranged w.held _ _ _ _ size me range.held)
+    (c.in_err-held.ensures.read w.held (of_lists w.size w.me w.kept ++ behind_kept w after) (ranged w.held _ _ _ _ size me range.held)
     (moved w.held _ _ _ _ _ _ size me (process.1 ∙ at_held w after)))
 
-pub returns-in_err-kept : goal.returns-in_err-kept
-returns-in_err-kept c = λ w after sound fits range e.
+pub returns-in_err-kept-clause-read : goal.returns-in_err-kept-clause-read
+returns-in_err-kept-clause-read c = λ w after sound own fits range e.
     let place = c.in_ok-size.ensures.read w.size w.me (w.begun ∷ from_name w after) sound.few sound.me e in
-    let begun = c.in_ok-begun.ensures w.begun (from_name w after) place.1 in
-    let inst = c.in_ok-inst.ensures w.inst (from_process w after) range.inst (begun.1 ∙ at_process w after) in
+    let begun = c.in_ok-begun.ensures.read w.begun (from_name w after) place.1 in
+    let inst = c.in_ok-inst.ensures.read w.inst (from_process w after) range.inst (begun.1 ∙ at_process w after) in
     let size : w.size ≡ c.in_ok-size.size = sym (ap (λ (x : ℕ × ℕ). x.0) place.0) in
     let me : w.me ≡ c.in_ok-size.me = sym (ap (λ (x : ℕ × ℕ). x.1) place.0) in
-    let process = c.in_ok-process.ensures.read w.process ((of_lists w.size w.me w.held ++ of_lists w.size w.me w.kept) ++ after) fits range.process (sound.tables ∙ size) inst.1 in
-    let held = c.in_ok-held.ensures.read w.held (of_lists w.size w.me w.kept ++ after) (ranged w.held _ _ _ _ size me range.held)
+    let process = c.in_ok-process.ensures.read w.process (lists_of w ++ after) fits range.process (sound.tables ∙ size) inst.1 in
+    let held = c.in_ok-held.ensures.read w.held (of_lists w.size w.me w.kept ++ behind_kept w after) (ranged w.held _ _ _ _ size me range.held)
     (moved w.held _ _ _ _ _ _ size me (process.1 ∙ at_held w after)) in
     stops _ _ _ _ _ c.from_residual-in_err-kept.ensures.1
-    (c.in_err-kept.ensures.read w.kept after (ranged w.kept _ _ _ _ size me range.kept) (moved w.kept _ _ _ _ _ _ size me held.1))
+    (c.in_err-kept.ensures.read w.kept (behind_kept w after) (ranged w.kept _ _ _ _ size me range.kept) (moved w.kept _ _ _ _ _ _ size me held.1))
 
-pub returns : goal.returns
-returns c = λ w after sound fits range e.
+pub returns-in_err-asks-clause-read : goal.returns-in_err-asks-clause-read
+returns-in_err-asks-clause-read c = λ w after sound own fits range e.
     let place = c.in_ok-size.ensures.read w.size w.me (w.begun ∷ from_name w after) sound.few sound.me e in
-    let begun = c.in_ok-begun.ensures w.begun (from_name w after) place.1 in
-    let inst = c.in_ok-inst.ensures w.inst (from_process w after) range.inst (begun.1 ∙ at_process w after) in
+    let begun = c.in_ok-begun.ensures.read w.begun (from_name w after) place.1 in
+    let inst = c.in_ok-inst.ensures.read w.inst (from_process w after) range.inst (begun.1 ∙ at_process w after) in
     let size : w.size ≡ c.in_ok-size.size = sym (ap (λ (x : ℕ × ℕ). x.0) place.0) in
     let me : w.me ≡ c.in_ok-size.me = sym (ap (λ (x : ℕ × ℕ). x.1) place.0) in
-    let process = c.in_ok-process.ensures.read w.process ((of_lists w.size w.me w.held ++ of_lists w.size w.me w.kept) ++ after) fits range.process (sound.tables ∙ size) inst.1 in
-    let held = c.in_ok-held.ensures.read w.held (of_lists w.size w.me w.kept ++ after) (ranged w.held _ _ _ _ size me range.held)
+    let process = c.in_ok-process.ensures.read w.process (lists_of w ++ after) fits range.process (sound.tables ∙ size) inst.1 in
+    let held = c.in_ok-held.ensures.read w.held (of_lists w.size w.me w.kept ++ behind_kept w after) (ranged w.held _ _ _ _ size me range.held)
     (moved w.held _ _ _ _ _ _ size me (process.1 ∙ at_held w after)) in
-    let kept = c.in_ok-kept.ensures.read w.kept after (ranged w.kept _ _ _ _ size me range.kept) (moved w.kept _ _ _ _ _ _ size me held.1) in
-    let is : IsReadManager w c.in_ok-size.size c.in_ok-size.me c.in_ok-process.process c.in_ok-inst.inst c.in_ok-begun.begun c.in_ok-held.held c.in_ok-kept.kept = record {
+    let kept = c.in_ok-kept.ensures.read w.kept (behind_kept w after) (ranged w.kept _ _ _ _ size me range.kept) (moved w.kept _ _ _ _ _ _ size me held.1) in
+    stops _ _ _ _ _ c.from_residual-in_err-asks.ensures.1 (c.in_err-asks.ensures.read w.asks (w.answered ∷ after) range.many range.asks kept.1)
+
+pub returns-in_err-next-clause-read : goal.returns-in_err-next-clause-read
+returns-in_err-next-clause-read c = λ w after sound own fits range e.
+    let place = c.in_ok-size.ensures.read w.size w.me (w.begun ∷ from_name w after) sound.few sound.me e in
+    let begun = c.in_ok-begun.ensures.read w.begun (from_name w after) place.1 in
+    let inst = c.in_ok-inst.ensures.read w.inst (from_process w after) range.inst (begun.1 ∙ at_process w after) in
+    let size : w.size ≡ c.in_ok-size.size = sym (ap (λ (x : ℕ × ℕ). x.0) place.0) in
+    let me : w.me ≡ c.in_ok-size.me = sym (ap (λ (x : ℕ × ℕ). x.1) place.0) in
+    let process = c.in_ok-process.ensures.read w.process (lists_of w ++ after) fits range.process (sound.tables ∙ size) inst.1 in
+    let held = c.in_ok-held.ensures.read w.held (of_lists w.size w.me w.kept ++ behind_kept w after) (ranged w.held _ _ _ _ size me range.held)
+    (moved w.held _ _ _ _ _ _ size me (process.1 ∙ at_held w after)) in
+    let kept = c.in_ok-kept.ensures.read w.kept (behind_kept w after) (ranged w.kept _ _ _ _ size me range.kept) (moved w.kept _ _ _ _ _ _ size me held.1) in
+    let asks = c.in_ok-asks.ensures.read w.asks (w.answered ∷ after) range.many range.asks kept.1 in
+    stops _ _ _ _ _ c.from_residual-in_err-next.ensures.1 (c.in_err-next.ensures.read w.answered after asks.1)
+
+pub returns-clause-read : goal.returns-clause-read
+returns-clause-read c = λ w after sound own fits range e.
+    let place = c.in_ok-size.ensures.read w.size w.me (w.begun ∷ from_name w after) sound.few sound.me e in
+    let begun = c.in_ok-begun.ensures.read w.begun (from_name w after) place.1 in
+    let inst = c.in_ok-inst.ensures.read w.inst (from_process w after) range.inst (begun.1 ∙ at_process w after) in
+    let size : w.size ≡ c.in_ok-size.size = sym (ap (λ (x : ℕ × ℕ). x.0) place.0) in
+    let me : w.me ≡ c.in_ok-size.me = sym (ap (λ (x : ℕ × ℕ). x.1) place.0) in
+    let process = c.in_ok-process.ensures.read w.process (lists_of w ++ after) fits range.process (sound.tables ∙ size) inst.1 in
+    let held = c.in_ok-held.ensures.read w.held (of_lists w.size w.me w.kept ++ behind_kept w after) (ranged w.held _ _ _ _ size me range.held)
+    (moved w.held _ _ _ _ _ _ size me (process.1 ∙ at_held w after)) in
+    let kept = c.in_ok-kept.ensures.read w.kept (behind_kept w after) (ranged w.kept _ _ _ _ size me range.kept) (moved w.kept _ _ _ _ _ _ size me held.1) in
+    let asks = c.in_ok-asks.ensures.read w.asks (w.answered ∷ after) range.many range.asks kept.1 in
+    let next = c.in_ok-next.ensures.read w.answered after asks.1 in
+    let is : IsReadManager w c.in_ok-size.size c.in_ok-size.me c.in_ok-process.process c.in_ok-inst.inst c.in_ok-begun.begun c.in_ok-held.held c.in_ok-kept.kept c.in_ok-asks.asks c.set_of-answered.result = record {
       is_size = sym size;
       is_me = sym me;
       tables = c.in_ok-process.ensures.size;
@@ -94,6 +135,8 @@ returns c = λ w after sound fits range e.
       kept_of = c.in_ok-kept.ensures.processes;
       held_same = held.0;
       kept_same = kept.0;
+      named = asks.0;
+      replied = c.set_of-answered.ensures ∙ next.0;
     } in
     is_made (λ (v : ManagerState). of_manager v ≡ of_manager w) _ _ after _ _ _ c.ok_or.ensures.value c.of.ensures.some c.of.ensures.none
-    (sound_again w _ _ _ _ _ _ _ sound is) (manager_again w _ _ _ _ _ _ _ is) kept.1
+    (sound_again w _ _ _ _ _ _ _ _ _ sound is, own_again w _ _ _ _ _ _ _ _ _ own is) (manager_again w _ _ _ _ _ _ _ _ _ is) next.1

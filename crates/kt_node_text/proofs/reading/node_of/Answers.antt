@@ -21,47 +21,54 @@ abbrev from_taken : NodeLinks → List ℕ
 from_taken w = of_list w.taken ++ of_reaches w.reaches
 
 pub returns-in_err-next-clause-form : goal.returns-in_err-next-clause-form
-returns-in_err-next-clause-form c = λ is w sound e.
-    not_form _ _ c.from_residual.ensures.1 (c.in_err-next.ensures version (w.clock ∷ from_manager w) (c.new-numbers.ensures ∙ e)) is
+returns-in_err-next-clause-form c = λ is w own e.
+    let sound = own.sound in
+    not_form _ _ c.from_residual.ensures.1 (c.in_err-next.ensures.read version (w.clock ∷ from_manager w) (c.new-numbers.ensures ∙ e)) is
 
 pub returns-then-branch-ne-VERSION-clause-form : goal.returns-then-branch-ne-VERSION-clause-form
-returns-then-branch-ne-VERSION-clause-form c = λ is w sound e.
-    c.if-branch-ne-VERSION.true (c.in_ok-next.ensures version (w.clock ∷ from_manager w) (c.new-numbers.ensures ∙ e)).0
+returns-then-branch-ne-VERSION-clause-form c = λ is w own e.
+    let sound = own.sound in
+    c.if-branch-ne-VERSION.true (c.in_ok-next.ensures.read version (w.clock ∷ from_manager w) (c.new-numbers.ensures ∙ e)).0
 
 pub returns-in_err-clock-clause-form : goal.returns-in_err-clock-clause-form
-returns-in_err-clock-clause-form c = λ is w sound e.
-    let next = c.in_ok-next.ensures version (w.clock ∷ from_manager w) (c.new-numbers.ensures ∙ e) in
-    not_form _ _ c.from_residual-in_err-clock.ensures.1 (c.in_err-clock.ensures w.clock (from_manager w) next.1) is
+returns-in_err-clock-clause-form c = λ is w own e.
+    let sound = own.sound in
+    let next = c.in_ok-next.ensures.read version (w.clock ∷ from_manager w) (c.new-numbers.ensures ∙ e) in
+    not_form _ _ c.from_residual-in_err-clock.ensures.1 (c.in_err-clock.ensures.read w.clock (from_manager w) next.1) is
 
 pub returns-in_err-manager-clause-form : goal.returns-in_err-manager-clause-form
-returns-in_err-manager-clause-form c = λ is w sound e.
-    let next = c.in_ok-next.ensures version (w.clock ∷ from_manager w) (c.new-numbers.ensures ∙ e) in
-    let clock = c.in_ok-clock.ensures w.clock (from_manager w) next.1 in
+returns-in_err-manager-clause-form c = λ is w own e.
+    let sound = own.sound in
+    let next = c.in_ok-next.ensures.read version (w.clock ∷ from_manager w) (c.new-numbers.ensures ∙ e) in
+    let clock = c.in_ok-clock.ensures.read w.clock (from_manager w) next.1 in
     not_form _ _ c.from_residual-in_err-manager.ensures.1
-    (c.in_err-manager.ensures w.manager (from_sent w) sound.manager sound.process sound.ranges.manager clock.1) is
+    (c.in_err-manager.ensures.read w.manager (from_sent w) sound.manager own.part sound.process sound.ranges.manager clock.1) is
 
 pub returns-in_err-sent-clause-form : goal.returns-in_err-sent-clause-form
-returns-in_err-sent-clause-form c = λ is w sound e.
-    let next = c.in_ok-next.ensures version (w.clock ∷ from_manager w) (c.new-numbers.ensures ∙ e) in
-    let clock = c.in_ok-clock.ensures w.clock (from_manager w) next.1 in
-    let manager = c.in_ok-manager.ensures w.manager (from_sent w) sound.manager sound.process sound.ranges.manager clock.1 in
-    not_form _ _ c.from_residual-in_err-sent.ensures.1 (c.in_err-sent.ensures w.sent (from_taken w) sound.ranges.sent manager.1) is
+returns-in_err-sent-clause-form c = λ is w own e.
+    let sound = own.sound in
+    let next = c.in_ok-next.ensures.read version (w.clock ∷ from_manager w) (c.new-numbers.ensures ∙ e) in
+    let clock = c.in_ok-clock.ensures.read w.clock (from_manager w) next.1 in
+    let manager = c.in_ok-manager.ensures.read w.manager (from_sent w) sound.manager own.part sound.process sound.ranges.manager clock.1 in
+    not_form _ _ c.from_residual-in_err-sent.ensures.1 (c.in_err-sent.ensures.read w.sent (from_taken w) sound.ranges.sent manager.1) is
 
 pub returns-in_err-taken-clause-form : goal.returns-in_err-taken-clause-form
-returns-in_err-taken-clause-form c = λ is w sound e.
-    let next = c.in_ok-next.ensures version (w.clock ∷ from_manager w) (c.new-numbers.ensures ∙ e) in
-    let clock = c.in_ok-clock.ensures w.clock (from_manager w) next.1 in
-    let manager = c.in_ok-manager.ensures w.manager (from_sent w) sound.manager sound.process sound.ranges.manager clock.1 in
-    let sent = c.in_ok-sent.ensures w.sent (from_taken w) sound.ranges.sent manager.1 in
-    not_form _ _ c.from_residual-in_err-taken.ensures.1 (c.in_err-taken.ensures w.taken (of_reaches w.reaches) sound.ranges.taken sent.1) is
+returns-in_err-taken-clause-form c = λ is w own e.
+    let sound = own.sound in
+    let next = c.in_ok-next.ensures.read version (w.clock ∷ from_manager w) (c.new-numbers.ensures ∙ e) in
+    let clock = c.in_ok-clock.ensures.read w.clock (from_manager w) next.1 in
+    let manager = c.in_ok-manager.ensures.read w.manager (from_sent w) sound.manager own.part sound.process sound.ranges.manager clock.1 in
+    let sent = c.in_ok-sent.ensures.read w.sent (from_taken w) sound.ranges.sent manager.1 in
+    not_form _ _ c.from_residual-in_err-taken.ensures.1 (c.in_err-taken.ensures.read w.taken (of_reaches w.reaches) sound.ranges.taken sent.1) is
 
 pub returns-in_err-reaches-clause-form : goal.returns-in_err-reaches-clause-form
-returns-in_err-reaches-clause-form c = λ is w sound e.
-    let next = c.in_ok-next.ensures version (w.clock ∷ from_manager w) (c.new-numbers.ensures ∙ e) in
-    let clock = c.in_ok-clock.ensures w.clock (from_manager w) next.1 in
-    let manager = c.in_ok-manager.ensures w.manager (from_sent w) sound.manager sound.process sound.ranges.manager clock.1 in
-    let sent = c.in_ok-sent.ensures w.sent (from_taken w) sound.ranges.sent manager.1 in
-    let taken = c.in_ok-taken.ensures w.taken (of_reaches w.reaches) sound.ranges.taken sent.1 in
+returns-in_err-reaches-clause-form c = λ is w own e.
+    let sound = own.sound in
+    let next = c.in_ok-next.ensures.read version (w.clock ∷ from_manager w) (c.new-numbers.ensures ∙ e) in
+    let clock = c.in_ok-clock.ensures.read w.clock (from_manager w) next.1 in
+    let manager = c.in_ok-manager.ensures.read w.manager (from_sent w) sound.manager own.part sound.process sound.ranges.manager clock.1 in
+    let sent = c.in_ok-sent.ensures.read w.sent (from_taken w) sound.ranges.sent manager.1 in
+    let taken = c.in_ok-taken.ensures.read w.taken (of_reaches w.reaches) sound.ranges.taken sent.1 in
     not_form _ _ c.from_residual-in_err-reaches.ensures.1
     (c.in_err-reaches.ensures w.reaches [] sound.ranges.reaches (taken.1 ∙ sym (no_rest (of_reaches w.reaches)))) is
 
@@ -72,24 +79,26 @@ made w v o r e some none counted same =
     is_read _ [] [] r (is_made (λ (x : NodeLinks). numbers_of x ≡ numbers_of w) (AreCounted v) v [] [] o r e some none counted same refl)
 
 pub returns-clause-ok : goal.returns-clause-ok
-returns-clause-ok c = λ w sound e.
-    let next = c.in_ok-next.ensures version (w.clock ∷ from_manager w) (c.new-numbers.ensures ∙ e) in
-    let clock = c.in_ok-clock.ensures w.clock (from_manager w) next.1 in
-    let manager = c.in_ok-manager.ensures w.manager (from_sent w) sound.manager sound.process sound.ranges.manager clock.1 in
-    let sent = c.in_ok-sent.ensures w.sent (from_taken w) sound.ranges.sent manager.1 in
-    let taken = c.in_ok-taken.ensures w.taken (of_reaches w.reaches) sound.ranges.taken sent.1 in
+returns-clause-ok c = λ w own e.
+    let sound = own.sound in
+    let next = c.in_ok-next.ensures.read version (w.clock ∷ from_manager w) (c.new-numbers.ensures ∙ e) in
+    let clock = c.in_ok-clock.ensures.read w.clock (from_manager w) next.1 in
+    let manager = c.in_ok-manager.ensures.read w.manager (from_sent w) sound.manager own.part sound.process sound.ranges.manager clock.1 in
+    let sent = c.in_ok-sent.ensures.read w.sent (from_taken w) sound.ranges.sent manager.1 in
+    let taken = c.in_ok-taken.ensures.read w.taken (of_reaches w.reaches) sound.ranges.taken sent.1 in
     let reaches = c.in_ok-reaches.ensures w.reaches [] sound.ranges.reaches (taken.1 ∙ sym (no_rest (of_reaches w.reaches))) in
     let is : IsReadNode w c.in_ok-manager.manager c.in_ok-clock.clock c.in_ok-sent.sent c.in_ok-taken.taken c.in_ok-reaches.reaches =
     record { form = manager.0; is_clock = clock.0; is_sent = sent.0; is_taken = taken.0; goes = reaches.0 } in
     rw e (made w _ _ _ c.ok_or.ensures.value c.of.ensures.some c.of.ensures.none (counted_again w _ _ _ _ _ sound.counted is) (node_again w _ _ _ _ _ is)).0
 
 pub returns-clause-form : goal.returns-clause-form
-returns-clause-form c = λ wrong w sound e.
-    let next = c.in_ok-next.ensures version (w.clock ∷ from_manager w) (c.new-numbers.ensures ∙ e) in
-    let clock = c.in_ok-clock.ensures w.clock (from_manager w) next.1 in
-    let manager = c.in_ok-manager.ensures w.manager (from_sent w) sound.manager sound.process sound.ranges.manager clock.1 in
-    let sent = c.in_ok-sent.ensures w.sent (from_taken w) sound.ranges.sent manager.1 in
-    let taken = c.in_ok-taken.ensures w.taken (of_reaches w.reaches) sound.ranges.taken sent.1 in
+returns-clause-form c = λ wrong w own e.
+    let sound = own.sound in
+    let next = c.in_ok-next.ensures.read version (w.clock ∷ from_manager w) (c.new-numbers.ensures ∙ e) in
+    let clock = c.in_ok-clock.ensures.read w.clock (from_manager w) next.1 in
+    let manager = c.in_ok-manager.ensures.read w.manager (from_sent w) sound.manager own.part sound.process sound.ranges.manager clock.1 in
+    let sent = c.in_ok-sent.ensures.read w.sent (from_taken w) sound.ranges.sent manager.1 in
+    let taken = c.in_ok-taken.ensures.read w.taken (of_reaches w.reaches) sound.ranges.taken sent.1 in
     let reaches = c.in_ok-reaches.ensures w.reaches [] sound.ranges.reaches (taken.1 ∙ sym (no_rest (of_reaches w.reaches))) in
     let is : IsReadNode w c.in_ok-manager.manager c.in_ok-clock.clock c.in_ok-sent.sent c.in_ok-taken.taken c.in_ok-reaches.reaches =
     record { form = manager.0; is_clock = clock.0; is_sent = sent.0; is_taken = taken.0; goes = reaches.0 } in

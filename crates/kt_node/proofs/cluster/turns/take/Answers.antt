@@ -1,5 +1,5 @@
-use Rattle.std.proofs.Common.{◌≡◌, ◌∙◌, false, List, refl, sym, subst, arith}
-use Rattle.std.specs.Prelude.{◌&&◌, not, slice_index_or, Option, Ok}
+use Rattle.std.proofs.Common.{◌≡◌, ◌∙◌, false, List, refl, sym, subst}
+use Rattle.std.specs.Prelude.{◌&&◌, not, slice_index_or, Option}
 use Rattle.std.specs.List.{remove}
 use Rattle.kt_node.specs.Nodes.{Input, Held, Comes, is_in_rollback}
 use Rattle.kt_node.specs.Nets.{has_some}
@@ -8,10 +8,8 @@ use Rattle.kt_node.specs.Clusters.{link}
 use Rattle.kt_node.specs.Managers.{ManagerState, ShowsNode}
 use Rattle.kt_node.specs.declared.cluster.OnWay.{OnWay}
 use Rattle.kt_node.specs.Clusters.{IsFront, IsTaken}
-use Rattle.kt_node.specs.Links.{IsStep, IsUntaken, IsParcelRefusedAs}
-use Rattle.kt_node.specs.declared.node.Taken.{Taken}
-use Rattle.kt_node.specs.Faults.{fault_at}
 use Rattle.kt_node.proofs.OnWay.{front_comes}
+use Rattle.kt_node.proofs.Speaking.{is_spoken}
 use Rattle.kt_node.proofs.Turning.{front_input_is, front_turn, held_comes, own_turn, refused_taken}
 use Rattle.kt_node.proofs.cluster.turns.take.Goals as goal
 
@@ -21,46 +19,44 @@ returns-then-holds_next-clause-done c = λ y h speak.
     let es = link c.args.on_way.now.items from c.args.at in
     let shown = subst (λ (m : ManagerState). ShowsNode m y) (sym c.manager.ensures) h in
     let comes = held_comes (not (is_in_rollback y) && has_some (y.held from)) from (front_input from c.args.able es) (sym (c.holds_next.ensures y shown) ∙ c.if-holds_next.true) in
-    own_turn c.args.node.now c.redeliver.new.self c.args.on_way.now.items y _ (Held from) c.in_ok-redeliver.field-0 comes (λ n es. refl) (λ es. refl) (c.in_ok-redeliver.ensures.done y h (speak (Held from) comes))
+    own_turn c.args.node.now c.take_held.new.self c.args.on_way.now.items y _ (Held from) c.in_ok-take_held.field-0 comes (λ n es. refl) (λ es. refl) (c.in_ok-take_held.ensures.done y h (speak (Held from) comes))
 
 pub returns-in_err-output-clause-refused : goal.returns-in_err-output-clause-refused
 returns-in_err-output-clause-refused c = λ y h.
     let from = c.args.from in
     let ways = c.args.on_way.now.items in
     let place = c.in-Some.place in
-    let x = c.index-first.result.now in
+    let x = c.index.result.now in
     let front = subst (λ (l : List OnWay). IsFront l from c.args.at place) c.deref.ensures.value c.in-Some.ensures.some in
-    let is : x ≡ slice_index_or ways place x = c.index-first.ensures in
+    let is : x ≡ slice_index_or ways place x = c.index.ensures in
     let shown = subst (λ (m : ManagerState). ShowsNode m y) (sym c.manager.ensures) h in
     let held : (not (is_in_rollback y) && has_some (y.held from)) ≡ false = sym (c.holds_next.ensures y shown) ∙ c.if-holds_next.false in
     let comes = front_input_is (not (is_in_rollback y) && has_some (y.held from)) from c.args.able (link ways from c.args.at) (link (remove ways place) from c.args.at) (envelope x.clock x.parcel) held (front_comes ways from c.args.at place x front is) in
     refused_taken y _ (Comes from c.args.able x.parcel) c.in_err-output.field-0.0 c.from_residual-in_err-output.result comes c.from_residual-in_err-output.ensures (c.in_err-output.ensures.refused y h)
-    (λ n e. let g = c.in_err-output.ensures.gap n (cc e) in omega (arith, g.0, g.1, c.next.ensures))
 
 pub returns-clause-done : goal.returns-clause-done
 returns-clause-done c = λ y h speak.
     let from = c.args.from in
     let ways = c.args.on_way.now.items in
     let place = c.in-Some.place in
-    let x = c.index-first.result.now in
+    let x = c.index.result.now in
     let front = subst (λ (l : List OnWay). IsFront l from c.args.at place) c.deref.ensures.value c.in-Some.ensures.some in
-    let is : x ≡ slice_index_or ways place x = c.index-first.ensures in
+    let is : x ≡ slice_index_or ways place x = c.index.ensures in
     let shown = subst (λ (m : ManagerState). ShowsNode m y) (sym c.manager.ensures) h in
     let held : (not (is_in_rollback y) && has_some (y.held from)) ≡ false = sym (c.holds_next.ensures y shown) ∙ c.if-holds_next.false in
     let comes = front_input_is (not (is_in_rollback y) && has_some (y.held from)) from c.args.able (link ways from c.args.at) (link (remove ways place) from c.args.at) (envelope x.clock x.parcel) held (front_comes ways from c.args.at place x front is) in
-    let step = subst (λ t. IsUntaken t (IsStep c.args.node.now c.deliver.new.self x.clock y (Comes from c.args.able x.parcel))) c.in-Step.is (c.in_ok-output.ensures.done y h (speak (Comes from c.args.able x.parcel) comes)) in
-    front_turn c.args.node.now c.deliver.new.self ways c.remove.new.self.items y c.args.at from place c.args.able x c.in-Step.output front is held c.remove.ensures.items step
+    let step = c.in_ok-output.ensures.done y h (is_spoken y from c.args.able x.parcel (speak (Comes from c.args.able x.parcel) comes)) in
+    front_turn c.args.node.now c.take.new.self ways c.remove.new.self.items y c.args.at from place c.args.able x c.in_ok-output.output front is held c.remove.ensures.items step
 
 pub returns-clause-refused : goal.returns-clause-refused
 returns-clause-refused c = λ y h.
     let from = c.args.from in
     let ways = c.args.on_way.now.items in
     let place = c.in-Some.place in
-    let x = c.index-first.result.now in
+    let x = c.index.result.now in
     let front = subst (λ (l : List OnWay). IsFront l from c.args.at place) c.deref.ensures.value c.in-Some.ensures.some in
-    let is : x ≡ slice_index_or ways place x = c.index-first.ensures in
+    let is : x ≡ slice_index_or ways place x = c.index.ensures in
     let shown = subst (λ (m : ManagerState). ShowsNode m y) (sym c.manager.ensures) h in
     let held : (not (is_in_rollback y) && has_some (y.held from)) ≡ false = sym (c.holds_next.ensures y shown) ∙ c.if-holds_next.false in
     let comes = front_input_is (not (is_in_rollback y) && has_some (y.held from)) from c.args.able (link ways from c.args.at) (link (remove ways place) from c.args.at) (envelope x.clock x.parcel) held (front_comes ways from c.args.at place x front is) in
-    let taken = subst (λ (t : Taken). IsParcelRefusedAs (fault_at y (Comes from c.args.able x.parcel)) (Ok t)) c.in-Step.is (c.in_ok-output.ensures.refused y h) in
-    subst (λ (o : Option Input). IsTaken y o) (sym comes) taken
+    subst (λ (o : Option Input). IsTaken y o) (sym comes) (c.in_ok-output.ensures.refused y h)

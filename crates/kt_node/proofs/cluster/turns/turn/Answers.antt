@@ -1,17 +1,13 @@
 use Rattle.std.proofs.Common.{◌≡◌, ℤ, Some, refl, sym, ap, subst, rules}
 use Rattle.std.specs.Int.{w64}
 use Rattle.std.proofs.lemmas.Int.{to_z-of_z}
-use Rattle.kt_tables.specs.Calls.{Speaks}
-use Rattle.kt_node.specs.NodeSteps.{node_after}
 use Rattle.kt_node.specs.Links.{IsStep}
 use Rattle.std.specs.Prelude.{if◌then◌else◌, None}
 use Rattle.kt_meaning.specs.Past.{is_rollback_kind}
 use Rattle.kt_protocol.specs.States.{ProtocolStep}
 use Rattle.kt_protocol.specs.States as protocol
 use Rattle.kt_node.specs.Nodes.{Send, Begin}
-use Rattle.kt_machine.specs.Acts.{stepper}
-use Rattle.kt_node.specs.Clocks.{source_of}
-use Rattle.kt_node.specs.Clusters.{step_of, link, IsSpeakable, IsTurn}
+use Rattle.kt_node.specs.Clusters.{step_of, IsTurn}
 use Rattle.kt_node.proofs.Turning.{own_turn}
 use Rattle.kt_node.proofs.cluster.turns.turn.Goals as goal
 
@@ -22,10 +18,9 @@ returns-in_ok-send-in-Send-clause-done c = λ y h speak.
     let is : step_of c.args.next.now ≡ x = ap step_of a.is in
     let ways = c.args.on_way.now.items in
     let comes = ap (λ b. if b then Some (Send a.to a.body) else None) (c.in_ok-send-in-Send.ensures.step y h) in
-    let speaks : IsSpeakable y x (link ways (source_of x) (stepper x)) = subst (λ (z : ProtocolStep). IsSpeakable y z (link ways (source_of z) (stepper z))) is speak in
-    let done = subst (λ (b : ℤ). Speaks ((node_after y (Send a.to b)).state.calls) → IsStep c.args.node.now c.send.new.self 0 y (Send a.to b) c.in_ok-send-in-Send.field-0) (to_z-of_z w64 a.body (search rules)) (c.in_ok-send-in-Send.ensures.done y h) in
+    let done = subst (λ (b : ℤ). IsStep c.args.node.now c.send.new.self 0 y (Send a.to b) c.in_ok-send-in-Send.field-0) (to_z-of_z w64 a.body (search rules)) (c.in_ok-send-in-Send.ensures.done y h) in
     subst (λ (z : ProtocolStep). IsTurn c.args.node.now c.send.new.self ways ways y z c.in_ok-send-in-Send.field-0) (sym is)
-    (own_turn c.args.node.now c.send.new.self ways y x (Send a.to a.body) c.in_ok-send-in-Send.field-0 comes (λ n es. refl) (λ es. refl) (done (speaks (Send a.to a.body) comes)))
+    (own_turn c.args.node.now c.send.new.self ways y x (Send a.to a.body) c.in_ok-send-in-Send.field-0 comes (λ n es. refl) (λ es. refl) done)
 
 pub returns-in_ok-begin-in-Begin-clause-done : goal.returns-in_ok-begin-in-Begin-clause-done
 returns-in_ok-begin-in-Begin-clause-done c = λ y h speak.

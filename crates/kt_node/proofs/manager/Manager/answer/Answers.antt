@@ -14,15 +14,15 @@ use Rattle.kt_node.proofs.Hearing.{done_reply, hears_join}
 use Rattle.kt_node.proofs.manager.Manager.answer.Goals as goal
 
 pub returns-in-Reply : goal.returns-in-Reply
-returns-in-Reply c = λ y able h i s.
+returns-in-Reply c = λ y able h i n s.
     let kind = c.args.ask.now.kind in
     let k = c.args.ask.now.inst in
     let label = c.args.ask.now.label in
     let t = subst (λ (a : Action). HearsAs kind (able_in kind able) y.processes c.args.from (number_for y.inst k) label (marks_in kind y) (process_of y) c.args.self.now.process a) c.in-Reply.is s in
-    done_reply c.args.self.now y kind c.args.from k label able c.in-Reply.willing c.in-Reply.cause c.unwilling.result h i (c.unwilling.ensures ∙ ap (λ (o : Option InstName). unwilling_row k o c.in-Reply.cause) i) t.1 t.2
+    done_reply c.args.self.now y kind c.args.from k label able c.in-Reply.willing c.in-Reply.cause c.unwilling.result h i n (c.unwilling.ensures ∙ ap (λ (o : Option InstName). unwilling_row k o c.in-Reply.cause) i) t.1 t.2
 
 pub returns-in-Join : goal.returns-in-Join
-returns-in-Join c = λ y able h i s.
+returns-in-Join c = λ y able h i n s.
     let kind = c.args.ask.now.kind in
     let k = c.args.ask.now.inst in
     let label = c.args.ask.now.label in

@@ -12,22 +12,28 @@ use Rattle.kt_node.specs.NodeClosing.{settling}
 use Rattle.kt_node.specs.NodeMessages.{refusing}
 use Rattle.kt_node.specs.Effects.{IsDone}
 use Rattle.kt_node.specs.Managers.{ManagerState, HoldsFor, process_of}
-use Rattle.kt_node.specs.Turns.{able_in, marks_in, named_cause, joined_in}
+use Rattle.kt_process.specs.declared.actions.Action.TheVariants.{Join}
+use Rattle.kt_node.specs.Turns.{CanFollow, able_in, marks_in, named_cause, joined_in}
 use Rattle.kt_node.proofs.Beginning.{go_joined, joined_begun, joined_node, refuses, begins}
 use Rattle.kt_node.proofs.Lists.{holds_begun}
 use Rattle.kt_node.proofs.manager.Manager.begun.Goals as goal
 
+pub join-requires : goal.join-requires
+join-requires c =
+    let can = subst (λ (w : ManagerState). CanFollow w (Join c.in-Join.ask c.in-Join.goes)) (sym c.self.view_is) (subst (λ (a : Action). CanFollow c.args.self.now a) c.in-Join.is c.requires.can) in
+    record { alone = can.alone; back = λ e r. let b = can.back e r in record { back = b.back } }
+
 pub returns-in-Refuse : goal.returns-in-Refuse
-returns-in-Refuse c = λ y able h i e s.
+returns-in-Refuse c = λ y able h i n e s.
     let kind = c.args.kind in
     let why = c.in-Refuse.cause in
     let t = subst (λ (a : Action). BeginsAs kind (able_in kind able) y.processes 1 (marks_in kind y) (process_of y) c.args.self.now.process a) c.in-Refuse.is s in
-    let d = c.refusal.ensures c.args.self.now y (record { holds = h; process = t.1; inst = i }) in
+    let d = c.refusal.ensures c.args.self.now y (record { holds = h; process = t.1; inst = i; answered = n }) in
     subst (λ (d : Doing). IsDone c.args.self.now c.refusal.result d)
     (ap₂ (λ (v : Verb) (n : NamedCause). refusing y v n) c.verb_of.ensures (c.named.ensures ∙ ap (λ (o : Option InstName). named_cause o why) i) ∙ refuses y y.inst kind able why t.0) d
 
 pub returns-in-Join : goal.returns-in-Join
-returns-in-Join c = λ y able h i e s.
+returns-in-Join c = λ y able h i n e s.
     let kind = c.args.kind in
     let inst = c.args.inst.now in
     let asks = c.in-Join.ask in

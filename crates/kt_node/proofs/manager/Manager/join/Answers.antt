@@ -17,25 +17,25 @@ leave-requires c = λ r.
     record { back = b.back }
 
 pub returns-in-Wait : goal.returns-in-Wait
-returns-in-Wait c = λ y label h s e cohort way willing.
+returns-in-Wait c = λ y label h s e cohort way willing fresh.
     let hi = subst (λ (w : ManagerState). HoldsFor w y) (sym c.self.view_is) h in
     let si = subst (λ (w : ManagerState). IsSeenAs w.process (process_of y)) (sym c.self.view_is) s in
     waits _ c.args.inst.now c.args.kind c.args.began c.args.asks label y c.joining_row.result c.joining_row.ensures cohort c.joining_act-act.result c.joining_act-act.ensures
-    (shows_in _ c.self.inside.process (Some c.args.inst.now) y hi si (sym e)) (sym c.in-Wait.is ∙ way)
+    (shows_in _ c.self.inside.process (Some c.args.inst.now) c.empty-self-inside.result y hi si (sym e) (λ q. c.empty-self-inside.ensures q ∙ sym (fresh q))) (sym c.in-Wait.is ∙ way)
 
 pub returns-in-Answer : goal.returns-in-Answer
-returns-in-Answer c = λ y label h s e cohort way willing.
+returns-in-Answer c = λ y label h s e cohort way willing fresh.
     let hi = subst (λ (w : ManagerState). HoldsFor w y) (sym c.self.view_is) h in
     let si = subst (λ (w : ManagerState). IsSeenAs w.process (process_of y)) (sym c.self.view_is) s in
     answers _ c.args.inst.now c.args.kind c.args.began c.args.asks label y c.joining_row.result c.joining_row.ensures cohort c.joining_act-act.result c.in-Answer.to c.joining_act-act.ensures
-    (shows_in _ c.self.inside.process (Some c.args.inst.now) y hi si (sym e)) (sym c.in-Answer.is ∙ way) willing
+    (shows_in _ c.self.inside.process (Some c.args.inst.now) c.empty-self-inside.result y hi si (sym e) (λ q. c.empty-self-inside.ensures q ∙ sym (fresh q))) (sym c.in-Answer.is ∙ way) willing
     (c.requires.alone (λ n. let f : Wait ≡ Answer c.in-Answer.to = sym n ∙ c.in-Answer.is in absurd (cc (f))))
 
 pub returns-in-Commit : goal.returns-in-Commit
-returns-in-Commit c = λ y label h s e cohort way willing.
+returns-in-Commit c = λ y label h s e cohort way willing fresh.
     let hi = subst (λ (w : ManagerState). HoldsFor w y) (sym c.self.view_is) h in
     let si = subst (λ (w : ManagerState). IsSeenAs w.process (process_of y)) (sym c.self.view_is) s in
-    let shows = shows_in _ c.self.inside.process (Some c.args.inst.now) y hi si (sym e) in
+    let shows = shows_in _ c.self.inside.process (Some c.args.inst.now) c.empty-self-inside.result y hi si (sym e) (λ q. c.empty-self-inside.ensures q ∙ sym (fresh q)) in
     let acts = c.two_acts.ensures ∙ ap₂ (λ (a b : List Act). a ++ b) c.joining_act-act.ensures (c.closing_act-last.ensures ∙ ap (λ (b : Bool). acts_of_closing b true) (ready_is _ _ si)) in
     commits _ c.args.inst.now c.args.kind c.args.began c.args.asks label y c.joining_row.result c.joining_row.ensures cohort c.two_acts.result acts
     (c.leave.ensures.left y shows (λ n. let f : Some c.args.inst.now ≡ None = sym e ∙ n in absurd (cc (f)))) (sym c.in-Commit.is ∙ way) willing

@@ -13,4 +13,4 @@ pub returns-in-Begin : goal.returns-in-Begin
 returns-in-Begin c = λ y h. c.may_begin.ensures y (is_rollback_kind (Some c.in-Begin.field-0)) true h ∙ ap (λ (x : Input). is_none (fault_at y (input_of true x))) (sym c.in-Begin.is)
 
 pub returns-in-Deliver : goal.returns-in-Deliver
-returns-in-Deliver c = λ y h. c.may_take.ensures y true c.in-Deliver.envelope.parcel h ∙ ap (λ (x : Input). is_none (fault_at y (input_of true x))) (sym c.in-Deliver.is)
+returns-in-Deliver c = λ y h. c.may_take.ensures y true h ∙ ap (λ (x : Input). is_none (fault_at y (input_of true x))) (sym c.in-Deliver.is)

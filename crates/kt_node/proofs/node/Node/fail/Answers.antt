@@ -1,7 +1,7 @@
-use Rattle.std.proofs.Common.{sym, subst, ap}
+use Rattle.std.proofs.Common.{◌∙◌, sym, subst, ap}
 use Rattle.kt_node.specs.Nodes.{Fail}
 use Rattle.kt_node.specs.Links.{NodeLinks}
-use Rattle.kt_node.specs.Managers.{ShowsNode}
+use Rattle.kt_node.specs.Managers.{ManagerState, ShowsNode}
 use Rattle.kt_node.proofs.Counts.{step_of, inside_reaches}
 use Rattle.kt_node.proofs.node.Node.fail.Goals as goal
 
@@ -10,5 +10,5 @@ returns-clause-done c = λ y h.
     let i = subst (λ (w : NodeLinks). ShowsNode w.manager y) (sym c.self.view_is) h in
     let put = c.put.ensures in
     step_of c.args.self.now c.put.new.self c.fail-effects.new.self c.self.inside.sent 0 c.in_ok-clock.clock y Fail c.fail-effects.result c.put.result
-    (c.fail-effects.ensures y i) c.in_ok-clock.ensures.ok put.manager put.clock (ap (λ (w : NodeLinks). w.sent) c.self.view_is) put.sent put.effects put.told put.numbers
+    (c.fail-effects.ensures y i) c.in_ok-clock.ensures.ok put.manager put.clock (ap (λ (w : NodeLinks). w.sent) c.self.view_is) put.sent put.effects (put.from ∙ ap (λ (w : ManagerState). w.me) (sym put.manager)) put.told put.numbers
     (λ r. put.reaches y.calls (inside_reaches c.args.self.now c.self.inside.reaches y.calls (ap (λ (w : NodeLinks). w.reaches) c.self.view_is) r))

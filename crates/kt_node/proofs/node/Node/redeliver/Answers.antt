@@ -1,14 +1,7 @@
-use Rattle.std.proofs.Common.{sym, subst, ap}
-use Rattle.kt_node.specs.Nodes.{Held}
-use Rattle.kt_node.specs.Links.{NodeLinks}
-use Rattle.kt_node.specs.Managers.{ShowsNode}
-use Rattle.kt_node.proofs.Counts.{step_of, inside_reaches}
+use Rattle.std.proofs.Common.{◌∙◌, sym, rules}
+use Rattle.kt_node.proofs.Meets.{held_done}
 use Rattle.kt_node.proofs.node.Node.redeliver.Goals as goal
 
 pub returns-clause-done : goal.returns-clause-done
-returns-clause-done c = λ y h speaks.
-    let i = subst (λ (w : NodeLinks). ShowsNode w.manager y) (sym c.self.view_is) h in
-    let put = c.put.ensures in
-    step_of c.args.self.now c.put.new.self c.take_held.new.self c.self.inside.sent 0 c.in_ok-clock.clock y (Held c.args.from) c.in_ok-effects.effects c.put.result
-    (c.in_ok-effects.ensures.done y i speaks) c.in_ok-clock.ensures.ok put.manager put.clock (ap (λ (w : NodeLinks). w.sent) c.self.view_is) put.sent put.effects put.told put.numbers
-    (λ r. put.reaches y.calls (inside_reaches c.args.self.now c.self.inside.reaches y.calls (ap (λ (w : NodeLinks). w.reaches) c.self.view_is) r))
+returns-clause-done c = λ y h. held_done c.args.self.now y c.args.from _ c.take_held.result h (search rules) (sym c.is_stale_held.ensures ∙ c.if-is_stale_held.false)
+    (c.take_held.ensures.refused y h.manager) (c.take_held.ensures.done y h.manager)

@@ -4,30 +4,30 @@ use Rattle.kt_node_text.proofs.OneAfterAnother.{stops, is_negative, body_size, b
 use Rattle.kt_node_text.proofs.numbers.Numbers.body.Goals as goal
 use Rattle.kt_node_text.proofs.numbers.Numbers.body.Goals.{else-not-negative-via-then-not-negative+else-size, else-not-negative-via-else-not-negative, else-negative-via-then-negative+else-size-ge1, else-negative-via-else-negative}
 
-pub returns-in_err-negative : goal.returns-in_err-negative
-returns-in_err-negative c = λ b after fits e.
-    stops _ _ _ _ _ c.from_residual.ensures.1 (c.in_err-negative.ensures (is_negative b) (body_size b ∷ after) (e ∙ body_begins b after))
+pub returns-in_err-negative-clause-read : goal.returns-in_err-negative-clause-read
+returns-in_err-negative-clause-read c = λ b after fits e.
+    stops _ _ _ _ _ c.from_residual.ensures.1 (c.in_err-negative.ensures.read (is_negative b) (body_size b ∷ after) (e ∙ body_begins b after))
 
-pub returns-in_err-size : goal.returns-in_err-size
-returns-in_err-size c = λ b after fits e.
-    let sign = c.in_ok-negative.ensures (is_negative b) (body_size b ∷ after) (e ∙ body_begins b after) in
+pub returns-in_err-size-clause-read : goal.returns-in_err-size-clause-read
+returns-in_err-size-clause-read c = λ b after fits e.
+    let sign = c.in_ok-negative.ensures.read (is_negative b) (body_size b ∷ after) (e ∙ body_begins b after) in
     stops _ _ _ _ _ c.from_residual-in_err-size.ensures.1 (c.in_err-size.ensures.read (body_size b) after (body_fits b fits) sign.1)
 
-pub returns-then-size : goal.returns-then-size
-returns-then-size c = λ b after fits e.
-    let sign = c.in_ok-negative.ensures (is_negative b) (body_size b ∷ after) (e ∙ body_begins b after) in
+pub returns-then-size-clause-read : goal.returns-then-size-clause-read
+returns-then-size-clause-read c = λ b after fits e.
+    let sign = c.in_ok-negative.ensures.read (is_negative b) (body_size b ∷ after) (e ∙ body_begins b after) in
     let size = c.in_ok-size.ensures.read (body_size b) after (body_fits b fits) sign.1 in
     (from_zero b _ (sym sign.0 ∙ c.if-not-negative.true) size.0 c.if-size.true, size.1)
 
-pub returns-then-size-ge1 : goal.returns-then-size-ge1
-returns-then-size-ge1 c = λ b after fits e.
-    let sign = c.in_ok-negative.ensures (is_negative b) (body_size b ∷ after) (e ∙ body_begins b after) in
+pub returns-then-size-ge1-clause-read : goal.returns-then-size-ge1-clause-read
+returns-then-size-ge1-clause-read c = λ b after fits e.
+    let sign = c.in_ok-negative.ensures.read (is_negative b) (body_size b ∷ after) (e ∙ body_begins b after) in
     let size = c.in_ok-size.ensures.read (body_size b) after (body_fits b fits) sign.1 in
     (below_zero b _ fits (sym sign.0 ∙ c.if-negative.true) size.0, size.1)
 
-pub returns : goal.returns
-returns c = λ b after fits e.
-    let sign = c.in_ok-negative.ensures (is_negative b) (body_size b ∷ after) (e ∙ body_begins b after) in
+pub returns-clause-read : goal.returns-clause-read
+returns-clause-read c = λ b after fits e.
+    let sign = c.in_ok-negative.ensures.read (is_negative b) (body_size b ∷ after) (e ∙ body_begins b after) in
     let size = c.in_ok-size.ensures.read (body_size b) after (body_fits b fits) sign.1 in
     let is = a_body b _ fits size.0 in
     elim c.else-not-negative.branch [

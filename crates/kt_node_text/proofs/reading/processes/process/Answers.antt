@@ -7,16 +7,16 @@ use Rattle.kt_node_text.proofs.reading.processes.process.Goals as goal
 
 pub returns-in_err-tables-clause-read : goal.returns-in_err-tables-clause-read
 returns-in_err-tables-clause-read c = λ x after fits range size e.
-    let used = c.in_ok-used.ensures x.used (of_flag x.up ∷ (of_side x.side ++ of_tables x.tables) ++ after) range.used e in
-    let up = c.in_ok-up.ensures x.up ((of_side x.side ++ of_tables x.tables) ++ after) used.1 in
+    let used = c.in_ok-used.ensures.read x.used (of_flag x.up ∷ (of_side x.side ++ of_tables x.tables) ++ after) range.used e in
+    let up = c.in_ok-up.ensures.read x.up ((of_side x.side ++ of_tables x.tables) ++ after) used.1 in
     let marks = subst (λ (n : ℕ). HasMarks n x.side) size fits.marked in
     let side = c.in_ok-side.ensures x.side (of_tables x.tables ++ after) range.side marks (up.1 ∙ append_assoc (of_side x.side) (of_tables x.tables) after) in
     stops _ _ _ _ _ c.from_residual-in_err-tables.ensures.1 (c.in_err-tables.ensures.read x.tables after range.tables size side.1)
 
 pub returns-clause-read : goal.returns-clause-read
 returns-clause-read c = λ x after fits range size e.
-    let used = c.in_ok-used.ensures x.used (of_flag x.up ∷ (of_side x.side ++ of_tables x.tables) ++ after) range.used e in
-    let up = c.in_ok-up.ensures x.up ((of_side x.side ++ of_tables x.tables) ++ after) used.1 in
+    let used = c.in_ok-used.ensures.read x.used (of_flag x.up ∷ (of_side x.side ++ of_tables x.tables) ++ after) range.used e in
+    let up = c.in_ok-up.ensures.read x.up ((of_side x.side ++ of_tables x.tables) ++ after) used.1 in
     let marks = subst (λ (n : ℕ). HasMarks n x.side) size fits.marked in
     let side = c.in_ok-side.ensures x.side (of_tables x.tables ++ after) range.side marks (up.1 ∙ append_assoc (of_side x.side) (of_tables x.tables) after) in
     let tables = c.in_ok-tables.ensures.read x.tables after range.tables size side.1 in

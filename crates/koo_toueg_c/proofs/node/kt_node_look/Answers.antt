@@ -1,0 +1,20 @@
+use Rattle.std.proofs.Common.{rules, ◌≡◌, ◌∙◌, subst}
+use Rattle.koo_toueg_c.specs.NodeNumbers.{look_status, refusal_status}
+use Rattle.koo_toueg_c.proofs.Loaded.{status_two}
+use Rattle.koo_toueg_c.proofs.node.kt_node_look.Goals as goal
+
+pub returns-in-Ok-Plain-clause-look : goal.returns-in-Ok-Plain-clause-look
+returns-in-Ok-Plain-clause-look c = λ other x meant w y says shown.
+    let status : 1 ≡ look_status c.in-Ok-Plain.field-0 = search rules in
+    status ∙ c.in-Ok-Plain.ensures.look x meant w y says shown
+
+pub returns-in-Ok-Idle-clause-look : goal.returns-in-Ok-Idle-clause-look
+returns-in-Ok-Idle-clause-look c = λ other x meant w y says shown.
+    let status : 2 ≡ look_status c.in-Ok-Idle.field-0 = search rules in
+    status ∙ c.in-Ok-Idle.ensures.look x meant w y says shown
+
+pub returns-in-Err-clause-look : goal.returns-in-Err-clause-look
+returns-in-Err-clause-look c = λ other x meant w y says shown.
+    let exact = c.status.ensures.exact in
+    let two : refusal_status c.in-Err.why ≡ 2 = status_two c.in-Err.why (λ e. other (exact ∙ e)) in
+    exact ∙ (two ∙ c.in-Err.ensures.refused two x meant w y says shown)
