@@ -69,7 +69,7 @@ fn opens(rt: HostRuntime) {
         assert!(rt; kt_node_new(rt.alloc(), me, processes, &mut state, &mut len) == 2 && len == 0);
     }
     assert!(rt; kt_node_new(rt.alloc(), 0, 2, &mut state[..8], &mut len) == 5 && len > 2600);
-    assert!(rt; kt_node_new(rt.alloc(), 0, 2, &mut state, &mut len) == 0 && state[0] == 1);
+    assert!(rt; kt_node_new(rt.alloc(), 0, 2, &mut state, &mut len) == 0 && state[0] == 2);
 }
 
 #[test]
