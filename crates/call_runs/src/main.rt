@@ -15,7 +15,6 @@ mod meetings;
 mod merging;
 mod net;
 mod node_steps;
-mod node_texts;
 mod objects;
 mod plain;
 mod runs;
@@ -30,7 +29,6 @@ use drawn::show_drawn;
 use files::show_files;
 use limits::show_limits;
 use long_logs::show_long_logs;
-use node_texts::show_node_texts;
 use objects::show_objects;
 use slots::show_slots;
 use std::io;
@@ -43,7 +41,6 @@ fn main(rt: HostRuntime) -> io::Result<()> {
     show_objects(&rt)?;
     show_slots(&rt)?;
     show_long_logs(&rt)?;
-    show_node_texts(&rt)?;
     show_files(&rt)?;
     show_drawn(&rt)
 }
