@@ -26,19 +26,19 @@ use Rattle.kt_meaning.proofs.RowRules.{both, not_true}
 use Rattle.kt_rules.proofs.Traced.{trace_parts}
 use Rattle.kt_histories.specs.declared.breach.Breach.TheVariants as breach
 use Rattle.kt_histories.specs.Demands.{has_sent, has_received}
-use Rattle.kt_histories.specs.Breaches.{IsBreach, IsLatestFrom, IsLastDropped}
+use Rattle.kt_histories.specs.Breaches.{IsJudged, IsLatestFrom, IsLastDropped}
 use Rattle.kt_histories.proofs.TracedMessages.{is_false, traced_message, untraced, unplaced, placed_deed, sent_message, received_message}
 
 module _ (rows : List Event) (l : IsLegal rows) where
   -- a message that was not sent
-  pub unsent_told : (p from m : ℕ) → trace_of rows m ≡ None → IsBreach rows (λ s. has_sent s from p m) (breach.NotSent m)
+  pub unsent_told : (p from m : ℕ) → trace_of rows m ≡ None → IsJudged rows (λ s. has_sent s from p m) (Some (breach.NotSent m))
   unsent_told p from m none = record {
     so = untraced rows m none;
     against = λ log legal so. is_false (has_sent (past log) from p m) (λ has. so from p (sent_message log legal from p m has));
   }
 
   -- one that was sent by another process, or to another one
-  pub elsewhere_told : (p from m : ℕ) (t : Trace) → trace_of rows m ≡ Some t → (t.from ≡ from → t.to ≡ p → ⊥) → IsBreach rows (λ s. has_sent s from p m) (breach.SentBetween m t.from t.to)
+  pub elsewhere_told : (p from m : ℕ) (t : Trace) → trace_of rows m ≡ Some t → (t.from ≡ from → t.to ≡ p → ⊥) → IsJudged rows (λ s. has_sent s from p m) (Some (breach.SentBetween m t.from t.to))
   elsewhere_told p from m t e other = record {
     so = traced_message rows m t e;
     against = λ log legal so. is_false (has_sent (past log) from p m) (λ has.
@@ -47,7 +47,7 @@ module _ (rows : List Event) (l : IsLegal rows) where
   }
 
   -- one whose send was undone
-  pub undone_told : (p from m : ℕ) (t : Trace) → trace_of rows m ≡ Some t → t.from ≡ from → t.to ≡ p → t.sent ≡ None → IsBreach rows (λ s. has_sent s from p m) (breach.Undone m from p)
+  pub undone_told : (p from m : ℕ) (t : Trace) → trace_of rows m ≡ Some t → t.from ≡ from → t.to ≡ p → t.sent ≡ None → IsJudged rows (λ s. has_sent s from p m) (Some (breach.Undone m from p))
   undone_told p from m t e at to none =
       let gone = unplaced rows l t.from (deed.Sent m t.to) (sym (trace_parts rows m t e).0 ∙ none) in
       let wrote = traced_message rows m t e in

@@ -21,7 +21,7 @@ use Rattle.kt_histories.specs.declared.breach.Outside.{Outside}
 use Rattle.kt_histories.specs.declared.breach.before.Before.{Before}
 use Rattle.kt_histories.specs.declared.breach.demands.Demand.{Demand}
 use Rattle.kt_histories.specs.declared.waiting.Waiting.{Waiting}
-use Rattle.kt_histories.specs.Demands.{ask_all, asks, has_received, has_sent}
+use Rattle.kt_histories.specs.Demands.{IsBetween, IsBusyFor, IsNeverRefused, ask_all, asks, has_received, has_sent}
 use Rattle.kt_histories.specs.Finding.{IsFirstNumber, IsFirstRow, IsLastNumber, begins_inst, closes, decides_inst, drops, fails, receives}
 
 -- the greatest message from a sender that is in a list of deeds as received
@@ -57,7 +57,7 @@ pub record IsOpen (rows : List Event) (o : Open) : Type 0 where
   pub joined : IsLastIn (is_join o.p o.inst) rows o.row
   pub decided : IsLastNumber (decides_inst o.inst) rows o.decided
 
--- what is told of a breach is so after these rows
+-- what is told of a breach is so after these rows, if it tells of them, and not of a row that comes next
 abbrev pub IsSo : List Event → Breach → Type 0
 IsSo rows (breach.NotSent msg) = (p q : ℕ) → IsMessage rows msg p q → ⊥
 IsSo rows (breach.SentBetween msg p q) = IsMessage rows msg p q
@@ -69,7 +69,6 @@ IsSo rows (breach.ReceivedLater p from msg row) =
     IsLatestFrom from ((past rows).live p) msg × IsLastIn (receives p from msg) rows row
 IsSo rows (breach.DroppedLater p from msg row) =
     IsLatestFrom from ((past rows).dropped_since p) msg × IsLastIn (drops msg) rows row
-IsSo rows (breach.OwnPeer p) = Unit {0}
 IsSo rows (breach.Down p row) = ((past rows).up p ≡ false) × IsLastIn (fails p) rows row
 IsSo rows (breach.Up p) = (past rows).up p ≡ true
 IsSo rows (breach.Inside o) = IsOpen rows o
@@ -86,18 +85,29 @@ IsSo rows (breach.Initiator k p row) =
     (initiator_of (past rows) k ≡ Some p) × (kind : Kind) × IsFirstRow (begins_inst k) rows row (event.Began p k kind)
 IsSo rows (breach.Decided k row) = (is_some ((past rows).decision k) ≡ true) × IsLastIn (decides_inst k) rows row
 IsSo rows (breach.Undecided k) = (past rows).decision k ≡ None
-IsSo rows (breach.OwnCause k) = Unit {0}
-IsSo rows breach.NoCause = Unit {0}
+IsSo rows b = ⊥
 
--- what is told is so after these rows, and wherever it is so a demand is not kept
-pub record IsBreach (rows : List Event) (demand : Past → Bool) (b : Breach) : Type 0 where
-  pub so : IsSo rows b
-  pub against : (log : List Event) → IsLegal log → IsSo log b → demand (past log) ≡ false
+-- what is told of a breach of a row is so, after these rows
+abbrev pub IsSoOf : List Event → Event → Breach → Type 0
+IsSoOf rows row (breach.OwnPeer p) = IsBetween row p p
+IsSoOf rows row (breach.OwnCause k) = IsBusyFor row k k
+IsSoOf rows row breach.NoCause = IsNeverRefused row
+IsSoOf rows row b = IsSo rows b
 
--- what is against a demand after some rows, if it is not met
+-- a fact is so after these rows, and wherever it is so a demand is not kept
+pub record IsAgainst (is_so : List Event → Type 0) (rows : List Event) (demand : Past → Bool) : Type 0 where
+  pub so : is_so rows
+  pub against : (log : List Event) → IsLegal log → is_so log → demand (past log) ≡ false
+
+-- what is against a demand after some rows, if it is not met, whatever row it is a demand on
 abbrev pub IsJudged : List Event → (Past → Bool) → Option Breach → Type 0
 IsJudged rows demand None = demand (past rows) ≡ true
-IsJudged rows demand (Some b) = IsBreach rows demand b
+IsJudged rows demand (Some b) = IsAgainst (λ log. IsSo log b) rows demand
+
+-- the same of a demand on this row
+abbrev pub IsJudgedOf : List Event → Event → (Past → Bool) → Option Breach → Type 0
+IsJudgedOf rows row demand None = demand (past rows) ≡ true
+IsJudgedOf rows row demand (Some b) = IsAgainst (λ log. IsSoOf log row b) rows demand
 
 -- of demands that together are a rule on a row the first that is not met after these rows, and what is against it
 pub record IsFirstUnmet (rows : List Event) (rule : Rule) (row : Event) (b : Breach) : Type 0 where
@@ -107,7 +117,7 @@ pub record IsFirstUnmet (rows : List Event) (rule : Rule) (row : Event) (b : Bre
   pub demand : Demand
   pub there : slice_get demands place ≡ Some demand
   pub met : ask_all (take place demands) (past rows) ≡ true
-  pub unmet : IsBreach rows (asks demand) b
+  pub unmet : IsAgainst (λ log. IsSoOf log row b) rows (asks demand)
 
 -- what is known before a row: the rows before it, which are legal, and their histories
 pub record KnowsBefore (b : Before) : Type 0 where

@@ -1,10 +1,13 @@
 -- What the rules demand of a row.
-use Rattle.std.specs.Prelude.{ℕ, ◌+◌, ◌==◌, not, Bool, true, false, is_none, is_some, List, length}
+use Rattle.std.specs.Prelude.{◌≡◌, ℕ, ◌+◌, ◌==◌, not, Bool, true, false, is_none, is_some, List, [], ◌∷◌, length}
 use Rattle.std.specs.List.{list_all}
+use Rattle.kt_base.specs.declared.words.Cause.TheVariants.{Busy}
 use Rattle.kt_base.specs.declared.words.Kind.TheVariants.{Checkpoint, Rollback}
 use Rattle.kt_spacetime.specs.declared.deeds.Deed.TheVariants as deed
+use Rattle.kt_spacetime.specs.declared.event.Event.{Event}
+use Rattle.kt_spacetime.specs.declared.event.Event.TheVariants as event
 use Rattle.kt_meaning.specs.Past.{Past, is_checkpoint, is_rollback, is_member, initiator_of}
-use Rattle.kt_meaning.specs.Legal.{follows, has_begun, has_deed, is_in, is_in_none, is_instance, is_later, is_rolling}
+use Rattle.kt_meaning.specs.Legal.{follows, has_begun, has_deed, is_in, is_in_none, is_instance, is_later, is_rolling, refuses}
 use Rattle.kt_histories.specs.declared.breach.demands.Demand.{Demand}
 use Rattle.kt_histories.specs.declared.breach.demands.Demand.TheVariants.{Nothing, Never, OtherPeer, OtherCause, Next, Begun, Sent, NotReceived, NotDropped, AfterReceived, AfterDropped, Up, Down, Idle, NotRolling, Inside, NotInside, NotJoined, Follows, OfKind, Initiator, Undecided, Decided}
 
@@ -46,3 +49,31 @@ asks (Decided k) s = is_some (s.decision k)
 -- whether all that is demanded is so
 abbrev pub ask_all : List Demand → Past → Bool
 ask_all list s = list_all (λ d. asks d s) list
+
+-- a row's message is one of this process and that one
+abbrev pub IsBetween : Event → ℕ → ℕ → Type 0
+IsBetween (event.Sent p to body) q peer = (q ≡ p) × (peer ≡ to)
+IsBetween (event.Received p from msg) q peer = (q ≡ p) × (peer ≡ from)
+IsBetween (event.Dropped p from msg) q peer = (q ≡ p) × (peer ≡ from)
+IsBetween row q peer = ⊥
+
+-- a row refuses to join this instance, since its process is in that one
+abbrev pub IsBusyFor : Event → ℕ → ℕ → Type 0
+IsBusyFor (event.Unwilling p k (Busy j)) inst cause = (inst ≡ k) × (cause ≡ j)
+IsBusyFor row inst cause = ⊥
+
+-- a row refuses a command for a cause for which no such command is ever refused
+abbrev pub IsNeverRefused : Event → Type 0
+IsNeverRefused (event.Refused p verb cause) = (s : Past) → refuses s p verb cause ≡ false
+IsNeverRefused row = ⊥
+
+-- a demand that what is so before can't change is one on this row
+abbrev pub IsDemandOn : Event → Demand → Type 0
+IsDemandOn row (OtherPeer p peer) = IsBetween row p peer
+IsDemandOn row (OtherCause k j) = IsBusyFor row k j
+IsDemandOn row Never = IsNeverRefused row
+IsDemandOn row demand = Unit {0}
+
+abbrev pub AreDemandsOn : Event → List Demand → Type 0
+AreDemandsOn row [] = Unit {0}
+AreDemandsOn row (demand ∷ demands) = IsDemandOn row demand × AreDemandsOn row demands

@@ -1,6 +1,6 @@
 //! What one process holds.
 
-ghost use Rattle.std.specs.Prelude.{◌≡◌, ◌≢◌, ◌<◌, ◌∷◌, [], ℕ, ℤ, Bool, true, false, List, Option, Some, None, IsSome, IfSome, OnOk, OnErr, IfOk, IfErr, IsTrue, Err, is_some, length, drop, take, map, slice_get, vec_len, Contains};
+ghost use Rattle.std.specs.Prelude.{◌≡◌, ◌≢◌, ◌<◌, ◌∷◌, [], ℕ, ℤ, Bool, true, false, List, Option, Some, None, IsSome, IfSome, OnOk, OnErr, IfOk, IfErr, IsTrue, Err, is_some, is_none, length, drop, take, map, slice_get, vec_len, Contains};
 ghost use Rattle.std.specs.List.{Any};
 ghost use Rattle.std.specs.Option.{option_map};
 ghost use Rattle.kt_object.specs.Bytes.{IsSavedState};
@@ -26,23 +26,24 @@ pub struct Held {
     pub depot: Depot,
 }
 
-/// What an object answers before a step: what the step is given, and the object's saved state, where one was asked for and
-/// the object could be saved.
+/// What an object answers before a step: what the step is given, and where a save was asked for, the object's saved state or
+/// why it could not be saved.
 #[derive(Drop)]
 pub struct Answer {
     pub give: Give,
     pub saved: Option<Vec<u8>>,
+    pub refused: Option<SaveFault>,
 }
 
-/// The saved state of an object; None where it could not be saved, for whatever cause.
-fn saved_state(alloc: Global, object: &Object) -> Option<Vec<u8>>
-    ensures { IfSome result (λ saved. IsSavedState (kind_of object.now) (value_of object.now) saved.items) }
+/// The saved state of an object, or why it could not be saved.
+fn saved_state(alloc: Global, object: &Object) -> Result<Vec<u8>, SaveFault>
+    ensures saved { IfOk result (λ saved. IsSavedState (kind_of object.now) (value_of object.now) saved.items) }
+    ensures able { OnOk result (may_save object.now) }
+    ensures unable { result ≡ Err SaveFault.Unable → may_refuse object.now }
 {
     let mut saved = Vec::new(alloc);
-    match object.save(&mut saved) {
-        Ok(()) => Some(saved),
-        Err(_) => None,
-    }
+    object.save(&mut saved)?;
+    Ok(saved)
 }
 
 /// Whether an act is nothing.
@@ -111,10 +112,22 @@ impl Held {
             IsSavedState (kind_of b) (value_of b) saved.items)) }
         ensures body { look ≡ Look.NeedsBody → IfSome self.now.present (λ b.
             result.give.body ≡ offered (kind_of b) (value_of b)) }
+
+        // An object that is asked is saved, or refuses; memory aside, it refuses only where it may.
+        ensures asked { look ≡ Look.NeedsSave → IfSome self.now.present (λ b. is_some result.saved ≡ is_none result.refused) }
+        ensures may_save { IfSome result.saved (λ saved. IfSome self.now.present (λ b. may_save b)) }
+        ensures unable { result.refused ≡ Some SaveFault.Unable → IfSome self.now.present (λ b. may_refuse b) }
+
+        // Who is not asked is not saved, and refuses nothing.
+        ensures unasked { look ≢ Look.NeedsSave → result.saved ≡ None }
+        ensures unrefused { look ≢ Look.NeedsSave → result.refused ≡ None }
     {
-        let saved = match (look, &self.present) {
-            (Look::NeedsSave, Some(object)) => saved_state(alloc, object),
-            _ => None,
+        let (saved, refused) = match (look, &self.present) {
+            (Look::NeedsSave, Some(object)) => match saved_state(alloc, object) {
+                Ok(saved) => (Some(saved), None),
+                Err(fault) => (None, Some(fault)),
+            },
+            _ => (None, None),
         };
         let body = match (look, &self.present) {
             (Look::NeedsBody, Some(object)) => object.offer(),
@@ -124,6 +137,7 @@ impl Held {
         Answer {
             give: Give { able, body },
             saved,
+            refused,
         }
     }
 

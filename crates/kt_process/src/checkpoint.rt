@@ -1,4 +1,4 @@
-//! The handlers: each sees one process's tables and part, how the process stands, and one parcel.
+//! The handlers of a checkpoint: each sees one process's tables and part, how the process stands, and one parcel.
 
 ghost use Rattle.std.specs.Prelude.{◌≡◌, ◌<◌, ◌++◌, ◌∷◌, [], List, None, Some, true, false, IfOk, OnOk, OnErr, IfSome, OnSome, IfNone, ℕ};
 ghost use Rattle.kt_base.specs.Sets.{has};
@@ -86,7 +86,7 @@ pub fn start(
 
 /// The reply of a process that an ask does not make join; None where it joins.
 #[inline(always)]
-pub fn answer(
+pub(crate) fn answer(
     tables: &Tables,
     standing: Standing,
     from: ProcNo,

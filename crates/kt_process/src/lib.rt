@@ -9,11 +9,11 @@
 
 mod actions;
 mod asks;
-mod checkpoint;
+pub mod checkpoint;
 mod notes;
 mod part;
 mod process;
-mod rollback;
+pub mod rollback;
 mod rolling;
 mod side;
 

@@ -1,4 +1,4 @@
-//! The handlers: each sees one process's tables and part, how the process stands, and one parcel.
+//! The handlers of a rollback: each sees one process's tables and part, how the process stands, and one parcel.
 
 ghost use Rattle.std.specs.Prelude.{◌≡◌, ◌<◌, ◌++◌, List, Bool, None, Some, true, false, IfOk, OnErr, IfSome, OnSome, IfNone, ℕ};
 ghost use Rattle.kt_base.specs.Sets.{has};

@@ -31,11 +31,12 @@ struct BegunIn {
 }
 
 impl Before<'_> {
+    ghost use Rattle.kt_spacetime.specs.declared.event.Event.{Event as Row};
     ghost use Rattle.kt_meaning.specs.Past.{past, is_rollback, is_member, initiator_of, beginning_of};
     ghost use Rattle.kt_meaning.specs.Legal.{IsLegal, has_begun, is_in, is_in_none, is_instance, is_join, is_rolling, keeps};
     ghost use Rattle.kt_histories.specs.declared.breach.demands.Demand.TheVariants.{OfKind};
-    ghost use Rattle.kt_histories.specs.Demands.{asks};
-    ghost use Rattle.kt_histories.specs.Breaches.{KnowsBefore, IsDecidedIn, IsJudged, IsLastIn, IsFirstUnmet, IsOpen};
+    ghost use Rattle.kt_histories.specs.Demands.{asks, IsDemandOn};
+    ghost use Rattle.kt_histories.specs.Breaches.{KnowsBefore, IsDecidedIn, IsJudged, IsJudgedOf, IsLastIn, IsFirstUnmet, IsOpen};
     ghost use Rattle.kt_histories.specs.Finding.{IsFirstRow, begins_inst};
 
     /// Those of the rows of a legal log.
@@ -69,7 +70,7 @@ impl Before<'_> {
     // What is against a demand.
     fn against(&self, demand: &Demand) -> Option<Breach>
         requires before { KnowsBefore self.now }
-        ensures { IsJudged self.now.rows.now (asks demand.now) result }
+        ensures { (row : Row) → IsDemandOn row demand.now → IsJudgedOf self.now.rows.now row (asks demand.now) result }
     {
         match *demand {
             Demand::Nothing => None,

@@ -1,9 +1,11 @@
 //! What the rules demand of a row, one by one, in the order in which it is told.
 
 ghost use Rattle.std.specs.Prelude.{◌≡◌, ◌&&◌};
+ghost use Rattle.kt_spacetime.specs.declared.event.Event.{Event as Row};
+ghost use Rattle.kt_spacetime.specs.declared.event.Event.TheVariants as event;
 ghost use Rattle.kt_meaning.specs.Past.{Past};
 ghost use Rattle.kt_meaning.specs.Legal.{keeps, keeps_numbers, keeps_receiving, keeps_joining, keeps_deciding, keeps_causes, excuses, is_undecided, names_begun, refuses};
-ghost use Rattle.kt_histories.specs.Demands.{asks, ask_all};
+ghost use Rattle.kt_histories.specs.Demands.{asks, ask_all, AreDemandsOn, IsDemandOn};
 
 use crate::breach::demands::Demand::{
     AfterDropped, AfterReceived, Begun, Decided, Down, Follows, Idle, Initiator, Inside, Never,
@@ -66,7 +68,8 @@ const NO: Demand = Nothing;
 
 /// What a rule demands of a row.
 pub fn demands(rule: Rule, row: &Event) -> [Demand; 7]
-    ensures { (s : Past) → ask_all result s ≡ keeps rule s row.now }
+    ensures rule { (s : Past) → ask_all result s ≡ keeps rule s row.now }
+    ensures on { AreDemandsOn row.now result }
 {
     match rule {
         Rule::Numbers => numbers(row),
@@ -100,7 +103,8 @@ pub fn demands(rule: Rule, row: &Event) -> [Demand; 7]
 }
 
 fn numbers(row: &Event) -> [Demand; 7]
-    ensures { (s : Past) → ask_all result s ≡ keeps_numbers s row.now }
+    ensures rule { (s : Past) → ask_all result s ≡ keeps_numbers s row.now }
+    ensures on { AreDemandsOn row.now result }
 {
     match *row {
         Event::Sent { p, to, .. } => [OtherPeer(p, to), NO, NO, NO, NO, NO, NO],
@@ -120,7 +124,8 @@ fn numbers(row: &Event) -> [Demand; 7]
 
 // The instance that a cause names has begun.
 fn named(cause: Cause) -> Demand
-    ensures { (s : Past) → asks result s ≡ names_begun s cause }
+    ensures rule { (s : Past) → asks result s ≡ names_begun s cause }
+    ensures on { (row : Row) → IsDemandOn row result }
 {
     match cause {
         Cause::Busy(inst) => Begun(inst),
@@ -129,7 +134,8 @@ fn named(cause: Cause) -> Demand
 }
 
 fn receiving(row: &Event) -> [Demand; 7]
-    ensures { (s : Past) → ask_all result s ≡ keeps_receiving s row.now }
+    ensures rule { (s : Past) → ask_all result s ≡ keeps_receiving s row.now }
+    ensures on { AreDemandsOn row.now result }
 {
     match *row {
         Event::Received { p, .. } => [NotRolling(p), Up(p), NO, NO, NO, NO, NO],
@@ -139,7 +145,8 @@ fn receiving(row: &Event) -> [Demand; 7]
 }
 
 fn joining(row: &Event) -> [Demand; 7]
-    ensures { (s : Past) → ask_all result s ≡ keeps_joining s row.now }
+    ensures rule { (s : Past) → ask_all result s ≡ keeps_joining s row.now }
+    ensures on { AreDemandsOn row.now result }
 {
     let follows = Follows(*row);
     match *row {
@@ -162,7 +169,8 @@ fn joining(row: &Event) -> [Demand; 7]
 }
 
 fn deciding(row: &Event) -> [Demand; 7]
-    ensures { (s : Past) → ask_all result s ≡ keeps_deciding s row.now }
+    ensures rule { (s : Past) → ask_all result s ≡ keeps_deciding s row.now }
+    ensures on { AreDemandsOn row.now result }
 {
     match *row {
         Event::Decided { p, inst, .. } => {
@@ -174,7 +182,8 @@ fn deciding(row: &Event) -> [Demand; 7]
 }
 
 fn causes(row: &Event) -> [Demand; 7]
-    ensures { (s : Past) → ask_all result s ≡ keeps_causes s row.now }
+    ensures rule { (s : Past) → ask_all result s ≡ keeps_causes s row.now }
+    ensures on { AreDemandsOn row.now result }
 {
     match *row {
         Event::Failed { p } => [Up(p), NO, NO, NO, NO, NO, NO],
@@ -186,7 +195,8 @@ fn causes(row: &Event) -> [Demand; 7]
 
 // The process may be unwilling to join the instance, for this cause.
 fn unwilling(p: ProcNo, inst: InstNo, cause: Cause) -> [Demand; 7]
-    ensures { (s : Past) → ask_all result s ≡ (is_undecided s inst && excuses s p inst cause) }
+    ensures rule { (s : Past) → ask_all result s ≡ (is_undecided s inst && excuses s p inst cause) }
+    ensures on { AreDemandsOn (event.Unwilling p inst cause) result }
 {
     let (begun, open) = (Begun(inst), Undecided(inst));
     let outside = NotInside(p, inst);
@@ -203,7 +213,8 @@ fn unwilling(p: ProcNo, inst: InstNo, cause: Cause) -> [Demand; 7]
 
 // The process may refuse a command, for this cause.
 fn refused(p: ProcNo, verb: Verb, cause: Cause) -> [Demand; 7]
-    ensures { (s : Past) → ask_all result s ≡ refuses s p verb cause }
+    ensures rule { (s : Past) → ask_all result s ≡ refuses s p verb cause }
+    ensures on { AreDemandsOn (event.Refused p verb cause) result }
 {
     match cause {
         Cause::Busy(inst) => match verb {
