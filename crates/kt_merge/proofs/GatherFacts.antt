@@ -9,7 +9,7 @@ use Rattle.kt_merge.specs.declared.part_fault.PartFault.TheVariants.{Memory}
 use Rattle.kt_spacetime.specs.declared.named_rows.ClockedRow.{ClockedRow}
 use Rattle.kt_merge.specs.Spelling.{part_spelling}
 use Rattle.kt_merge.specs.Texts.{part_width, max_records, IsSpellable, IsPartFrom, clock_after, IsPartText, IsPartFaultFrom, BeginsPart, IsFirstPartFault}
-use Rattle.kt_merge.specs.Reading.{PartRead, part_records, part_unread, GivesPartRow, MeetsPartEnd, MeetsPartFault, StepsPart}
+use Rattle.kt_merge.specs.Reading.{PartRead, IsPartUnread, part_records, part_unread, GivesPartRow, MeetsPartEnd, MeetsPartFault, StepsPart}
 
 abbrev Known : Type 0
 Known = Option Records
@@ -71,6 +71,10 @@ gathers_none p source = record { begins = unread source; process = refl; count =
     unread : (o : Option (List ℕ)) → BeginsKnown p (part_records o) [] (part_records o)
     unread None = tt
     unread (Some bytes) = record { spelled = refl; part = tt; few = omega arith }
+
+-- the same of any part of which no record was read
+pub gathers_unread : (part : PartRead) → IsPartUnread part → GathersPart part.process part.left part []
+gathers_unread part u = subst (λ (x : PartRead). GathersPart x.process x.left x []) (sym u.1) (gathers_none part.process u.0)
 
 all_said : (p : ℕ) (source left : Known) (rows : List ClockedRow) → BeginsKnown p source rows left → IfSome left (λ l. l ≡ []) → IfSome source (λ text. IsPartText p text rows)
 all_said p None left rows b e = tt

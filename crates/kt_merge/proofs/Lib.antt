@@ -15,6 +15,7 @@ pub mod MergedFacts
 pub mod StopFacts
 pub mod AheadFacts
 pub mod MergingFacts
+pub mod MetFacts
 mod Rowwise
 mod CausalRows
 pub mod ReadBack

@@ -111,6 +111,13 @@ pub record StopsMerge (parts : List PartRead) (old new : Option (List ℕ)) (fau
   pub wrong : IsMergeFaultAfter parts rows log fault
   pub written : WritesFront old new (log_text log)
 
+-- a part's fault is the one that its reader met
+abbrev pub IsMetIn : List PartRead → MergeFault → Type 0
+IsMetIn parts merge.Write = Unit {0}
+IsMetIn parts merge.Memory = Unit {0}
+IsMetIn parts (merge.Part p fault) = (part : PartRead) × (slice_get parts p ≡ Some part) × (part.fault ≡ Some fault)
+IsMetIn parts (merge.Row p n fault) = Unit {0}
+
 -- of each part no more was read than its rows among these, and the row that comes next
 abbrev pub AreReadTo : List PartRead → List ClockedRow → Type 0
 AreReadTo parts rows = (p : ℕ) (part : PartRead) → slice_get parts p ≡ Some part → part.count ≤ length (rows_of p rows) + 1

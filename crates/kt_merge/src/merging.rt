@@ -10,7 +10,7 @@ ghost use Rattle.kt_text.specs.Writing.{line_of, Sends, WritesFront};
 ghost use Rattle.kt_merge.specs.declared.fault.RowFault.{RowFault as row_faults};
 ghost use Rattle.kt_merge.specs.Heads.{GiveHeads};
 ghost use Rattle.kt_merge.specs.Numbering.{ShowsGiven, IsRowFault};
-ghost use Rattle.kt_merge.specs.Merging.{ArePartsUnread, WritesMerge, IsRowwise, IsMergeFaultAfter, StopsMerge, StopsReading, AreReadTo};
+ghost use Rattle.kt_merge.specs.Merging.{ArePartsUnread, WritesMerge, IsRowwise, IsMergeFaultAfter, StopsMerge, StopsReading, AreReadTo, IsMetIn};
 
 use crate::fault::MergeFault;
 use crate::giver::missing_at;
@@ -45,6 +45,8 @@ pub fn merge_parts<R: Read + Drop, W: Write>(
     ensures stopped { IfErr result (λ e. StopsMerge parts.old (W.contents writer.old) (W.contents writer.new) e) }
     ensures unread { IfErr result (λ e.
         StopsReading parts.old parts.new (W.contents writer.old) (W.contents writer.new) e) }
+    // The reader of the part has met it.
+    ensures met { IfErr result (IsMetIn parts.new) }
 {
     names_put_back();
     let mut numbers = Numbers::new(alloc)?;
@@ -71,6 +73,7 @@ fn merge_readers<R: Read + Drop, W: Write>(
     ensures merged { OnOk result (WritesMerge parts.old.items (W.contents writer.old) (W.contents writer.new)) }
     ensures stopped { IfErr result (λ e.
         StopsReading parts.old.items parts.new.items (W.contents writer.old) (W.contents writer.new) e) }
+    ensures met { IfErr result (IsMetIn parts.new.items) }
 {
     read_heads(parts, heads)?;
     while let Some((part, row)) = least(heads.as_slice()) {
@@ -92,6 +95,7 @@ fn read_heads<R: Read + Drop>(
     ensures found { OnOk result (GiveHeads parts.old.items parts.new.items heads.new.items) }
     ensures fault { IfErr result (λ e. IsMergeFaultAfter parts.old.items [] [] e) }
     ensures unread { IfErr result (λ e. AreReadTo parts.new.items []) }
+    ensures met { IfErr result (IsMetIn parts.new.items) }
 {
     heads.clear();
     for part in 0..parts.len() {

@@ -5,6 +5,7 @@ ghost use Rattle.csv.specs.Records.{fields_of};
 ghost use Rattle.kt_text.specs.Records.{left_in, ReadsOn, FieldsTaken, text_records};
 ghost use Rattle.kt_merge.specs.Spelling.{part_spelling};
 ghost use Rattle.kt_merge.specs.Texts.{part_width, max_records, IsSpellable, IsPartFaultFrom, IsPartText, IsFirstPartFault, IsOfPartText};
+ghost use Rattle.kt_merge.specs.declared.part_fault.PartFault.TheVariants as part_fault;
 ghost use Rattle.kt_merge.specs.Progress.{IsMetBy};
 ghost use Rattle.kt_merge.specs.Reading.{part_unread, part_records, IsPartUnread, StepsPart};
 
@@ -242,6 +243,19 @@ pub fn read_part<R: Read + Drop>(
         (λ bytes. IsFirstPartFault process (text_records part_width bytes) e)) }
 {
     let mut part = PartReader::new(alloc, reader, process)?;
+    rows_in(alloc, &mut part)
+}
+
+// The rows of a part of which none was read. But for memory, its reader has met its fault.
+fn rows_in<R: Read + Drop>(
+    alloc: Global,
+    part: &mut PartReader<R>,
+) -> Result<Vec<ClockedRow>, PartFault>
+    requires unread { IsPartUnread part.old }
+    ensures found { IfOk result (λ rows. IfSome part.old.left (λ text. IsPartText part.old.process text rows.items)) }
+    ensures fault { IfErr result (λ e. IfSome part.old.left (λ text. IsFirstPartFault part.old.process text e)) }
+    ensures met { IfErr result (λ e. e ≢ part_fault.Memory → part.new.fault ≡ Some e) }
+{
     let mut rows = Vec::new(alloc);
     while let Some(row) = part.next()? {
         push_item(&mut rows, row)?;

@@ -1,7 +1,7 @@
 //! Parts of named inputs merged, and what is told where that stops.
 
 ghost use Rattle.std.specs.Prelude.{◌≡◌, ◌≤◌, length, false, IfErr, OnOk};
-ghost use Rattle.kt_merge.specs.Merging.{ArePartsUnread, StopsMerge, StopsReading, WritesMerge};
+ghost use Rattle.kt_merge.specs.Merging.{ArePartsUnread, IsMetIn, StopsMerge, StopsReading, WritesMerge};
 
 use crate::fault::{MergeFault, RowFault};
 use crate::giver::Giver;
@@ -47,6 +47,7 @@ pub fn merge_inputs<R: Read + Drop, W: Write>(
         StopsMerge parts.old (W.contents writer.old) (W.contents writer.new) unmerged.fault) }
     ensures unread { hints ≡ false → IfErr result (λ unmerged.
         StopsReading parts.old parts.new (W.contents writer.old) (W.contents writer.new) unmerged.fault) }
+    ensures met { IfErr result (λ unmerged. IsMetIn parts.new unmerged.fault) }
 {
     match merge_parts(alloc, parts, writer) {
         Ok(()) => Ok(()),
@@ -63,7 +64,9 @@ pub fn merge_inputs<R: Read + Drop, W: Write>(
 }
 
 // What is told of a fault of parts.
-fn told_of<R: Read + Drop>(parts: &mut Parts<Input<R>>, fault: MergeFault) -> Told {
+fn told_of<R: Read + Drop>(parts: &mut Parts<Input<R>>, fault: MergeFault) -> Told
+    ensures { IsMetIn parts.old fault → IsMetIn parts.new fault }
+{
     match fault {
         MergeFault::Write | MergeFault::Memory => Told::Nothing,
         MergeFault::Part(p, why) => match why {

@@ -36,3 +36,18 @@ returns-in_err-push_header-clause-unread g c =
 
 pub returns-clause-stopped : goal.returns-clause-stopped
 returns-clause-stopped g c = search (rules, stops_merge)
+
+pub returns-in_err-numbers-clause-met : goal.returns-in_err-numbers-clause-met
+returns-in_err-numbers-clause-met g c =
+    let p = err_from_is_err_and c.from_residual.result c.from_residual.ensures.1 in
+    rw (p.1, p.2) tt
+
+pub returns-in_err-text-clause-met : goal.returns-in_err-text-clause-met
+returns-in_err-text-clause-met g c =
+    let p = err_from_is_err_and c.from_residual-in_err-text.result c.from_residual-in_err-text.ensures.1 in
+    rw (p.1, p.2) tt
+
+pub returns-in_err-push_header-clause-met : goal.returns-in_err-push_header-clause-met
+returns-in_err-push_header-clause-met g c =
+    let p = err_from_is_err_and c.from_residual-in_err-push_header.result c.from_residual-in_err-push_header.ensures.1 in
+    rw (p.1, p.2) tt

@@ -5,6 +5,7 @@ use Rattle.kt_meaning.specs.Names.{nothing_given, given_by}
 use Rattle.kt_spacetime.specs.declared.named_rows.ClockedRow.{ClockedRow}
 use Rattle.kt_merge.specs.Heads.{IsLeastHead, HasNoHead}
 use Rattle.kt_merge.proofs.MergingFacts.{HasNoNumber, merging_none, merging_more, none_left, writes_all, of_write_fault, stops_first, stops_at_row, stops_in_writing, stops_at_part, stops_at_end}
+use Rattle.kt_merge.proofs.MetFacts.{met_at_part, met_at_row, met_writing}
 use Rattle.kt_merge.proofs.merging.merge_readers.Goals as goal
 
 pub loop-part-init : goal.loop-part-init
@@ -108,3 +109,38 @@ returns-clause-merged g c =
     let none = subst HasNoHead c.as_slice.ensures.value (none_left c.least.result c.as_slice.result.now c.in_default.not-Some c.least.ensures.none) in
     writes_all c.args.parts.now.items c.loop-part.parts.items c.loop-part.heads.items c.loop-part.numbers (g.W.Write.contents c.args.writer.now) (g.W.Write.contents c.loop-part.writer) (g.W.Write.contents c.write_rest.new.writer) c.loop-part.text.items
     c.loop-part.invariant none c.in_ok-write_rest.ensures.written
+
+pub returns-in_err-read_heads-clause-met : goal.returns-in_err-read_heads-clause-met
+returns-in_err-read_heads-clause-met g c =
+    let p = err_from_is_err_and c.from_residual.result c.from_residual.ensures.1 in
+    rw (p.1, p.2) c.in_err-read_heads.ensures.met
+
+pub returns-in_err-event-clause-met : goal.returns-in_err-event-clause-met
+returns-in_err-event-clause-met g c =
+    let m = c.loop-part.invariant in
+    let given = given_by nothing_given m.log in
+    let p = err_from_is_err_and c.from_residual-in_err-event.result c.from_residual-in_err-event.ensures.1 in
+    let wrong = subst (λ (n : ℕ). HasNoNumber given c.in-Some.row n c.in_err-event.field-0.0) c.count.ensures.value (c.in_err-event.ensures.fault given m.shows) in
+    rw (p.1, p.2) (met_at_row c.loop-part.parts.items given c.in-Some.row c.index.result.now.count c.in_err-event.field-0.0 wrong)
+
+pub returns-in_err-write_row-clause-met : goal.returns-in_err-write_row-clause-met
+returns-in_err-write_row-clause-met g c =
+    let p = err_from_is_err_and c.from_residual-in_err-write_row.result c.from_residual-in_err-write_row.ensures.1 in
+    rw p.1 (met_writing c.loop-part.parts.items p.0 (of_write_fault c.in_err-write_row.field-0.0 p.0 p.2))
+
+pub returns-in_err-heads-clause-met : goal.returns-in_err-heads-clause-met
+returns-in_err-heads-clause-met g c =
+    let m = c.loop-part.invariant in
+    let least = subst (λ (hs : List (Option ClockedRow)). IsLeastHead hs c.in-Some.part c.in-Some.row) c.as_slice.ensures.value c.in-Some.ensures.found in
+    let in_heads = slice_get_within c.loop-part.heads.items c.in-Some.part (Some c.in-Some.row) least.is in
+    let within : c.in-Some.part < length c.loop-part.parts.items = omega (arith, in_heads, m.merged.many.0, m.merged.many.1) in
+    let there = slice_get_read c.loop-part.parts.items (length c.loop-part.parts.items) c.in-Some.part c.index_mut.result.now refl within c.index_mut.ensures.value in
+    let p = err_from_is_err_and c.from_residual-in_err-heads.result c.from_residual-in_err-heads.ensures.1 in
+    let f = c.in_err-heads.ensures.fault in
+    rw (p.1, p.2)
+    (met_at_part c.loop-part.parts.items c.in-Some.part c.index_mut.result.now c.next_head.new.reader f.0 c.in_err-heads.field-0.0 there f.2 f.1)
+
+pub returns-in_err-write_rest-clause-met : goal.returns-in_err-write_rest-clause-met
+returns-in_err-write_rest-clause-met g c =
+    let p = err_from_is_err_and c.from_residual-in_err-write_rest.result c.from_residual-in_err-write_rest.ensures.1 in
+    rw p.1 (met_writing c.loop-part.parts.items p.0 (of_write_fault c.in_err-write_rest.field-0.0 p.0 p.2))

@@ -4,6 +4,7 @@ use Rattle.std.proofs.lemmas.Result.{err_from_is_err_and}
 use Rattle.kt_merge.specs.declared.fault.MergeFault.{MergeFault}
 use Rattle.kt_merge.specs.Merging.{IsMergeFaultAfter}
 use Rattle.kt_merge.proofs.AheadFacts.{ahead_first, ahead_same}
+use Rattle.kt_merge.proofs.MetFacts.{met_at_part}
 use Rattle.kt_merge.proofs.StopFacts.{first_fault, first_more}
 use Rattle.kt_merge.proofs.merging.read_heads.Goals as goal
 
@@ -46,3 +47,17 @@ loop-part-preserved g c =
     let within : c.loop-part.part < length parts = omega (arith, c.loop-part.invariant.0.many.0, c.loop-part.invariant.1, c.loop-part-test.true) in
     let there = slice_get_read parts (length parts) c.loop-part.part c.index_mut.result.now refl within c.index_mut.ensures.value in
     (rw c.in_ok-push_item.ensures (first_more start parts c.loop-part.heads.items c.loop-part.part c.index_mut.result.now c.next_head.new.reader c.in_ok-head.head c.loop-part.invariant.0 there c.in_ok-head.ensures.found), c.loop-part.invariant.1)
+
+pub returns-in_err-head-clause-met : goal.returns-in_err-head-clause-met
+returns-in_err-head-clause-met g c =
+    let parts = c.loop-part.parts.items in
+    let within : c.loop-part.part < length parts = omega (arith, c.loop-part.invariant.0.many.0, c.loop-part.invariant.1, c.loop-part-test.true) in
+    let there = slice_get_read parts (length parts) c.loop-part.part c.index_mut.result.now refl within c.index_mut.ensures.value in
+    let p = err_from_is_err_and c.from_residual.result c.from_residual.ensures.1 in
+    let f = c.in_err-head.ensures.fault in
+    rw (p.1, p.2) (met_at_part parts c.loop-part.part c.index_mut.result.now c.next_head.new.reader f.0 c.in_err-head.field-0.0 there f.2 f.1)
+
+pub returns-in_err-push_item-clause-met : goal.returns-in_err-push_item-clause-met
+returns-in_err-push_item-clause-met g c =
+    let p = err_from_is_err_and c.from_residual-in_err-push_item.result c.from_residual-in_err-push_item.ensures.1 in
+    rw (p.1, p.2) tt
