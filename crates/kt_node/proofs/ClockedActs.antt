@@ -7,8 +7,8 @@ use Rattle.kt_node.specs.declared.parcels.NodeParcel.{NodeParcel}
 use Rattle.kt_node.specs.Nodes.{NodeState, Input, Doing, nothing, is_in_rollback}
 use Rattle.kt_node.specs.Nodes as input
 use Rattle.kt_node.specs.NodeSteps.{is_step, node_after}
-use Rattle.kt_node.specs.Nets.{Net, has_some, net_acts, net_run, opening_net, front_acts}
-use Rattle.kt_node.specs.Clocks.{Envelope, ClockedNet, acts_at, clocked_acts, clocked_run, front_input, opening_clocked}
+use Rattle.kt_node.specs.Nets.{Net, has_some, net_acts, net_run, opening_from, front_acts}
+use Rattle.kt_node.specs.Clocks.{Envelope, ClockedNet, acts_at, clocked_acts, clocked_run, front_input, opening_clocked_from}
 use Rattle.kt_node.proofs.Unclocked.{unclocked, run_unclocked}
 
 acts_unclocked : (w : ClockedNet) (x : ProtocolStep) → clocked_acts w x ≡ net_acts (unclocked w) x
@@ -34,5 +34,5 @@ acts_unclocked w (Take p q able) = at (not (is_in_rollback (w.nodes p)) && has_s
     at true = refl
     at false = front (w.channel q p)
 
-pub run_acts : (n first : ℕ) (steps : List ProtocolStep) (x : ProtocolStep) → clocked_acts (clocked_run (opening_clocked n first) steps) x ≡ net_acts (net_run (opening_net n first) steps) x
-run_acts n first steps x = acts_unclocked (clocked_run (opening_clocked n first) steps) x ∙ ap (λ (u : Net). net_acts u x) (run_unclocked (opening_clocked n first) steps)
+pub run_acts : (n : ℕ) (first : ℕ → ℕ) (steps : List ProtocolStep) (x : ProtocolStep) → clocked_acts (clocked_run (opening_clocked_from n first) steps) x ≡ net_acts (net_run (opening_from n first) steps) x
+run_acts n first steps x = acts_unclocked (clocked_run (opening_clocked_from n first) steps) x ∙ ap (λ (u : Net). net_acts u x) (run_unclocked (opening_clocked_from n first) steps)

@@ -27,6 +27,12 @@ pub mod ClockedActs
 pub mod NumberedNets
 pub mod NumberedCalls
 pub mod Merged
+pub mod RaisedCalls
+pub mod RaisedNodes
+pub mod RaisedNets
+pub mod RaisedRuns
+pub mod UsedLabels
+pub mod NearNets
 pub mod NodeKeeps
 pub mod NodeCalls
 pub mod NodeCheckpoints
@@ -48,3 +54,5 @@ pub mod OnWay
 pub mod Clustering
 pub mod Turning
 pub mod OwnMarks
+pub mod CallHistories
+pub mod NetHistories

@@ -6,8 +6,8 @@ use Rattle.kt_protocol.proofs.Updates.{is_same}
 use Rattle.kt_protocol.specs.States.{ProtocolStep}
 use Rattle.kt_spacetime.specs.declared.named_rows.ClockedRow.{ClockedRow}
 use Rattle.kt_spacetime.specs.ClockedRows.{rows_of}
-use Rattle.kt_node.specs.Clocks.{clocked_run, opening_clocked, AreByClock}
-use Rattle.kt_node.specs.Nets.{net_run, opening_net}
+use Rattle.kt_node.specs.Clocks.{clocked_run, opening_clocked_from, AreByClock}
+use Rattle.kt_node.specs.Nets.{net_run, opening_from}
 use Rattle.kt_node.proofs.Sorting.{NotBefore, not_before_refl, not_before_then, sorted_run}
 use Rattle.kt_node.proofs.Unclocked.{rows_unclocked}
 
@@ -66,11 +66,11 @@ one_order (r ∷ a) (s ∷ b) k p f g e =
     rest q false h = sym (ap (λ (x : Bool). if x then r ∷ rows_of q a else rows_of q a) h) ∙ (e q ∙ (ap (λ (y : ClockedRow). rows_of q (y ∷ b)) (sym same) ∙ ap (λ (x : Bool). if x then r ∷ rows_of q b else rows_of q b) h))
 
 -- whatever is sorted and has the parts of a run is the rows of a run
-pub merged : (n first : ℕ) (steps : List ProtocolStep) (rows : List ClockedRow) → AreByClock 0 0 rows → ((p : ℕ) → rows_of p rows ≡ rows_of p (clocked_run (opening_clocked n first) steps).rows)
-    → (ys : List ProtocolStep) × (rows ≡ (clocked_run (opening_clocked n first) ys).rows)
+pub merged : (n : ℕ) (first : ℕ → ℕ) (steps : List ProtocolStep) (rows : List ClockedRow) → AreByClock 0 0 rows → ((p : ℕ) → rows_of p rows ≡ rows_of p (clocked_run (opening_clocked_from n first) steps).rows)
+    → (ys : List ProtocolStep) × (rows ≡ (clocked_run (opening_clocked_from n first) ys).rows)
 merged n first steps rows a e =
     let s = sorted_run n first steps in
-    (s.0, one_order rows (clocked_run (opening_clocked n first) s.0).rows 0 0 a s.1 (λ p. e p ∙ sym (s.2 p)))
+    (s.0, one_order rows (clocked_run (opening_clocked_from n first) s.0).rows 0 0 a s.1 (λ p. e p ∙ sym (s.2 p)))
 
-pub merged_rows : (n first : ℕ) (ys : List ProtocolStep) (rows : List ClockedRow) → rows ≡ (clocked_run (opening_clocked n first) ys).rows → map (λ (r : ClockedRow). r.row) rows ≡ (net_run (opening_net n first) ys).rows
+pub merged_rows : (n : ℕ) (first : ℕ → ℕ) (ys : List ProtocolStep) (rows : List ClockedRow) → rows ≡ (clocked_run (opening_clocked_from n first) ys).rows → map (λ (r : ClockedRow). r.row) rows ≡ (net_run (opening_from n first) ys).rows
 merged_rows n first ys rows e = ap (λ (l : List ClockedRow). map (λ (r : ClockedRow). r.row) l) e ∙ rows_unclocked n first ys

@@ -12,7 +12,7 @@ use Rattle.kt_node.specs.Nodes.{Input}
 use Rattle.kt_node.specs.NodeSteps.{node_after}
 use Rattle.kt_spacetime.specs.declared.named_rows.ClockedRow.{ClockedRow}
 use Rattle.kt_spacetime.specs.ClockedRows.{rows_of}
-use Rattle.kt_node.specs.Clocks.{ClockedNet, clocked_row, source_of, input_at, clocked_doing, at_input, clocked_step, clocked_run, opening_clocked, AreByClock}
+use Rattle.kt_node.specs.Clocks.{ClockedNet, clocked_row, source_of, input_at, clocked_doing, at_input, clocked_step, clocked_run, opening_clocked_from, AreByClock}
 use Rattle.kt_node.proofs.NetInputs.{clock_rises}
 use Rattle.kt_node.proofs.BothOrders.{bare, Same, same_refl, same_then, HappensAt, clock_at, step_is}
 use Rattle.kt_node.proofs.Swaps.{swap}
@@ -196,10 +196,10 @@ rows_sorted w k p (z ∷ zs) s =
       rows_then k p c (stepper z) events r.0 s.1 r.2,
     )
 
-pub sorted_run : (n first : ℕ) (steps : List ProtocolStep) → (ys : List ProtocolStep) × AreByClock 0 0 (clocked_run (opening_clocked n first) ys).rows
-    × ((p : ℕ) → rows_of p (clocked_run (opening_clocked n first) ys).rows ≡ rows_of p (clocked_run (opening_clocked n first) steps).rows)
+pub sorted_run : (n : ℕ) (first : ℕ → ℕ) (steps : List ProtocolStep) → (ys : List ProtocolStep) × AreByClock 0 0 (clocked_run (opening_clocked_from n first) ys).rows
+    × ((p : ℕ) → rows_of p (clocked_run (opening_clocked_from n first) ys).rows ≡ rows_of p (clocked_run (opening_clocked_from n first) steps).rows)
 unfolding SortedFrom
 sorted_run n first steps =
-    let s = sorted_along (opening_clocked n first) [] steps tt in
-    let r = rows_sorted (opening_clocked n first) 0 0 s.0 s.1 in
+    let s = sorted_along (opening_clocked_from n first) [] steps tt in
+    let r = rows_sorted (opening_clocked_from n first) 0 0 s.0 s.1 in
     (s.0, subst (AreByClock 0 0) (sym r.1) r.2, λ p. s.2.parts p)

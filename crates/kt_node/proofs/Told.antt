@@ -21,7 +21,7 @@ use Rattle.kt_meaning.specs.Names.{Given, nothing_given, initiators_after, begun
 use Rattle.kt_meaning.proofs.PlaceFacts.{same_test, at_last}
 use Rattle.kt_meaning.proofs.GivenFacts.{none_given, given_more}
 use Rattle.kt_meaning.proofs.NumberedFacts.{numbers_first, numbered_more}
-use Rattle.kt_node.specs.Erasing.{event_from, rows_from}
+use Rattle.kt_node.specs.Erasing.{relabelled, rows_from}
 use Rattle.kt_node.proofs.Naming.{IsNaming, all_given, given_push, name_more, number_of_name, name_of_number}
 use Rattle.kt_node.proofs.SentPlaces.{sent_count, sent_place}
 
@@ -51,12 +51,12 @@ numbered_push g (x ∷ xs) log row event e f =
 -- one more row of process p
 module _ (name : ℕ → InstName) (first : ℕ) (rows : List NamedRow) (log : List Event) (begun : ℕ) (p : ℕ) where
   rows_numbered : (event : NamedEvent) (row : Event) → numbered_from nothing_given (rows_from first rows) ≡ Some log
-      → numbered_event (given log) p (event_from first event) ≡ Some row → numbered_from nothing_given (rows_from first (rows ++ row_of p event ∷ [])) ≡ Some (log ++ row ∷ [])
+      → numbered_event (given log) p (relabelled (λ q label. label - first) p event) ≡ Some row → numbered_from nothing_given (rows_from first (rows ++ row_of p event ∷ [])) ≡ Some (log ++ row ∷ [])
   rows_numbered event row t e =
-      subst (λ (l : List NamedRow). numbered_from nothing_given l ≡ Some (log ++ row ∷ [])) (sym (map-append (λ (r : NamedRow). row_of r.p (event_from first r.event)) rows (row_of p event ∷ [])))
-      (numbered_push nothing_given (rows_from first rows) log (row_of p (event_from first event)) row t e)
+      subst (λ (l : List NamedRow). numbered_from nothing_given l ≡ Some (log ++ row ∷ [])) (sym (map-append (λ (r : NamedRow). row_of r.p (relabelled (λ q label. label - first) r.p r.event)) rows (row_of p event ∷ [])))
+      (numbered_push nothing_given (rows_from first rows) log (row_of p (relabelled (λ q label. label - first) p event)) row t e)
 
-  pub told_more : (count : ℕ → ℕ) (event : NamedEvent) (row : Event) → Told name first count rows log begun → numbered_event (given log) p (event_from first event) ≡ Some row
+  pub told_more : (count : ℕ → ℕ) (event : NamedEvent) (row : Event) → Told name first count rows log begun → numbered_event (given log) p (relabelled (λ q label. label - first) p event) ≡ Some row
       → initiators_after (given log) row ≡ (given log).initiators → begun_after (given log) row ≡ (given log).begun
       → Told name first count (rows ++ row_of p event ∷ []) (log ++ row ∷ []) begun
   told_more count event row t e i b = record {

@@ -14,9 +14,9 @@ use Rattle.kt_node.specs.declared.parcels.NodeParcel.{NodeParcel}
 use Rattle.kt_node.specs.Nodes.{NodeState, Input, Doing, nothing, is_in_rollback}
 use Rattle.kt_node.specs.Nodes as input
 use Rattle.kt_node.specs.NodeSteps.{is_step, node_after}
-use Rattle.kt_node.specs.Nets.{Net, with_doing, with_rest, has_some, net_front, net_step, net_run, opening_net}
+use Rattle.kt_node.specs.Nets.{Net, with_doing, with_rest, has_some, net_front, net_step, net_run, opening_from}
 use Rattle.kt_spacetime.specs.declared.named_rows.ClockedRow.{ClockedRow}
-use Rattle.kt_node.specs.Clocks.{Envelope, ClockedNet, envelope, clocked_row, front_input, clock_after, left_after, clocked_doing, at_input, clocked_step, clocked_run, opening_clocked}
+use Rattle.kt_node.specs.Clocks.{Envelope, ClockedNet, envelope, clocked_row, front_input, clock_after, left_after, clocked_doing, at_input, clocked_step, clocked_run, opening_clocked_from}
 
 -- what is put without its clock
 abbrev parcels : List Envelope → List NodeParcel
@@ -104,5 +104,5 @@ pub run_unclocked : (w : ClockedNet) (xs : List ProtocolStep) → unclocked (clo
 run_unclocked w [] = refl
 run_unclocked w (x ∷ xs) = run_unclocked (clocked_step w x) xs ∙ ap (λ (u : Net). net_run u xs) (step_unclocked w x)
 
-pub rows_unclocked : (n first : ℕ) (steps : List ProtocolStep) → map (λ (r : ClockedRow). r.row) (clocked_run (opening_clocked n first) steps).rows ≡ (net_run (opening_net n first) steps).rows
-rows_unclocked n first steps = ap (λ (u : Net). u.rows) (run_unclocked (opening_clocked n first) steps)
+pub rows_unclocked : (n : ℕ) (first : ℕ → ℕ) (steps : List ProtocolStep) → map (λ (r : ClockedRow). r.row) (clocked_run (opening_clocked_from n first) steps).rows ≡ (net_run (opening_from n first) steps).rows
+rows_unclocked n first steps = ap (λ (u : Net). u.rows) (run_unclocked (opening_clocked_from n first) steps)

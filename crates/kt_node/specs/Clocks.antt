@@ -11,7 +11,7 @@ use Rattle.kt_spacetime.specs.declared.named_rows.ClockedRow.{ClockedRow}
 use Rattle.kt_node.specs.Nodes.{NodeState, Input, is_in_rollback}
 use Rattle.kt_node.specs.Nodes as input
 use Rattle.kt_node.specs.NodeSteps.{is_step, node_after}
-use Rattle.kt_node.specs.Nets.{has_some, opening_net}
+use Rattle.kt_node.specs.Nets.{has_some, opening_from}
 
 -- a parcel on its way, with the clock of the step that put it
 pub record Envelope : Type 0 where
@@ -100,9 +100,13 @@ abbrev pub clocked_run : ClockedNet → List ProtocolStep → ClockedNet
 clocked_run w [] = w
 clocked_run w (x ∷ xs) = clocked_run (clocked_step w x) xs
 
--- n nodes, all of whose clocks are 0
+-- n nodes, all of whose clocks are 0, of which each counts its messages on from a label of its own
+abbrev pub opening_clocked_from : ℕ → (ℕ → ℕ) → ClockedNet
+opening_clocked_from n first = record { nodes = (opening_from n first).nodes; clock = λ p. 0; channel = λ p q. []; rows = [] }
+
+-- and all from this one
 abbrev pub opening_clocked : ℕ → ℕ → ClockedNet
-opening_clocked n first = record { nodes = (opening_net n first).nodes; clock = λ p. 0; channel = λ p q. []; rows = [] }
+opening_clocked n first = opening_clocked_from n (λ p. first)
 
 -- sorted by clock, then by process, where none comes before this clock and this process
 abbrev pub AreByClock : ℕ → ℕ → List ClockedRow → Type 0

@@ -56,19 +56,27 @@ erased_process name processes me begun y held kept asks answered = record {
 abbrev pub erased_node : (ℕ → InstName) → Seen → ℕ → (ℕ → Option InstName) → (ℕ → Bool) → NodeState
 erased_node name v p asks answered = erased_process name v.processes p (begun_by p v.log) (v.states p) (λ q. v.held q p) (λ q. v.kept q p) asks answered
 
--- a row where labels count on from 0, which was told where they count on from another one
-abbrev pub event_from : ℕ → NamedEvent → NamedEvent
-event_from first (Sent to body label) = Sent to body (label - first)
-event_from first (Received from label) = Received from (label - first)
-event_from first (Dropped from label) = Dropped from (label - first)
-event_from first (Began inst kind) = Began inst kind
-event_from first (Took inst) = Took inst
-event_from first (Ready inst) = Ready inst
-event_from first (Unwilling inst cause) = Unwilling inst cause
-event_from first (Decided inst commit) = Decided inst commit
-event_from first (Closed inst) = Closed inst
-event_from first Failed = Failed
-event_from first (Refused verb cause) = Refused verb cause
+-- a row of p with other labels, each by whose message it is of
+abbrev pub relabelled : (ℕ → ℕ → ℕ) → ℕ → NamedEvent → NamedEvent
+relabelled by p (Sent to body label) = Sent to body (by p label)
+relabelled by p (Received from label) = Received from (by from label)
+relabelled by p (Dropped from label) = Dropped from (by from label)
+relabelled by p (Began inst kind) = Began inst kind
+relabelled by p (Took inst) = Took inst
+relabelled by p (Ready inst) = Ready inst
+relabelled by p (Unwilling inst cause) = Unwilling inst cause
+relabelled by p (Decided inst commit) = Decided inst commit
+relabelled by p (Closed inst) = Closed inst
+relabelled by p Failed = Failed
+relabelled by p (Refused verb cause) = Refused verb cause
 
+abbrev pub rows_relabelled : (ℕ → ℕ → ℕ) → List NamedRow → List NamedRow
+rows_relabelled by rows = map (λ r. row_of r.p (relabelled by r.p r.event)) rows
+
+-- rows where labels count on from 0, which were told where those of each process count on from one of its own
+abbrev pub rows_from_each : (ℕ → ℕ) → List NamedRow → List NamedRow
+rows_from_each first rows = rows_relabelled (λ q label. label - first q) rows
+
+-- and those of all from this one
 abbrev pub rows_from : ℕ → List NamedRow → List NamedRow
-rows_from first rows = map (λ r. row_of r.p (event_from first r.event)) rows
+rows_from first rows = rows_from_each (λ q. first) rows

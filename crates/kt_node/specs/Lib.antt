@@ -7,6 +7,7 @@ pub mod NodeClosing
 pub mod NodeSteps
 pub mod Nets
 pub mod Erasing
+pub mod FirstLabels
 pub mod Clocks
 pub mod Numbered
 pub mod NodeLooks
@@ -24,3 +25,4 @@ pub mod NumberedNodes
 pub mod Looks
 pub mod NetParts
 pub mod Clusters
+pub mod LoggedHistories

@@ -66,14 +66,14 @@ abbrev pub net_run : Net → List ProtocolStep → Net
 net_run w [] = w
 net_run w (x ∷ xs) = net_run (net_step w x) xs
 
--- n nodes, of which each counts its messages on from this label
-abbrev pub opening_net : ℕ → ℕ → Net
-opening_net n first = record {
+-- n nodes, of which each counts its messages on from a label of its own
+abbrev pub opening_from : ℕ → (ℕ → ℕ) → Net
+opening_from n first = record {
   nodes = λ p. record {
     processes = n;
     me = p;
     calls = [];
-    used = first;
+    used = first p;
     begun = 0;
     inst = None;
     part = no_part;
@@ -86,3 +86,7 @@ opening_net n first = record {
   channel = λ p q. [];
   rows = [];
 }
+
+-- and all from this one
+abbrev pub opening_net : ℕ → ℕ → Net
+opening_net n first = opening_from n (λ p. first)

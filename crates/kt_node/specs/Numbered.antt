@@ -6,7 +6,7 @@ use Rattle.kt_machine.specs.Acts.{stepper}
 use Rattle.kt_spacetime.specs.declared.named_rows.ClockedRow.{ClockedRow}
 use Rattle.kt_node.specs.Nodes.{NodeState, Input, is_in_rollback}
 use Rattle.kt_node.specs.NodeSteps.{node_after}
-use Rattle.kt_node.specs.Nets.{has_some, opening_net}
+use Rattle.kt_node.specs.Nets.{has_some, opening_from}
 use Rattle.kt_node.specs.Clocks.{Envelope, ClockedNet, envelope, clocked_row, clock_after, front_input, input_at, source_of}
 
 -- nodes with their clocks; what each process ever put for another one, in order: the number of a parcel is its place, counted
@@ -58,9 +58,13 @@ abbrev pub numbered_run : NumberedNet → List NumberedStep → NumberedNet
 numbered_run w [] = w
 numbered_run w (x ∷ xs) = numbered_run (numbered_step w x) xs
 
--- n nodes, of which each counts its messages on from this label
+-- n nodes, of which each counts its messages on from a label of its own
+abbrev pub opening_numbered_from : ℕ → (ℕ → ℕ) → NumberedNet
+opening_numbered_from n first = record { nodes = (opening_from n first).nodes; clock = λ p. 0; put = λ p q. []; taken = λ p q. 0; rows = [] }
+
+-- and all from this one
 abbrev pub opening_numbered : ℕ → ℕ → NumberedNet
-opening_numbered n first = record { nodes = (opening_net n first).nodes; clock = λ p. 0; put = λ p q. []; taken = λ p q. 0; rows = [] }
+opening_numbered n first = opening_numbered_from n (λ p. first)
 
 -- the same without numbers: on its way is what was put and not taken yet
 abbrev pub unnumbered : NumberedNet → ClockedNet

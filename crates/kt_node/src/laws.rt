@@ -20,23 +20,24 @@ ghost use Rattle.kt_node.specs.NodeSteps.{is_in, is_begun, node_after};
 ghost use Rattle.kt_node.specs.Faults.{fault_at};
 ghost use Rattle.kt_node.specs.NodeLooks.{where_able, would_save};
 ghost use Rattle.kt_node.specs.NodeHistories.{histories, calls_told, GoesOn, HasCheckpoints};
-ghost use Rattle.kt_node.specs.Nets.{net_step, net_run, opening_net, net_acts};
+ghost use Rattle.kt_node.specs.Nets.{net_step, net_run, opening_from, opening_net, net_acts};
+ghost use Rattle.kt_node.specs.FirstLabels.{raised_net};
 ghost use Rattle.kt_spacetime.specs.declared.named_rows.ClockedRow.{ClockedRow};
 ghost use Rattle.kt_spacetime.specs.ClockedRows.{rows_of, without_clocks};
-ghost use Rattle.kt_node.specs.Clocks.{Envelope as ClockedParcel, input_at, clocked_acts, clocked_run, opening_clocked, AreByClock};
-ghost use Rattle.kt_node.specs.Numbered.{NumberedNet, NumberedStep, with_number, numbered_step, numbered_run, opening_numbered, unnumbered};
+ghost use Rattle.kt_node.specs.Clocks.{Envelope as ClockedParcel, envelope, input_at, clocked_acts, clocked_run, opening_clocked, opening_clocked_from, AreByClock};
+ghost use Rattle.kt_node.specs.Numbered.{NumberedNet, NumberedStep, with_number, numbered_step, numbered_run, opening_numbered_from, unnumbered};
 ghost use Rattle.kt_node.specs.Numbered as happens;
 ghost use Rattle.kt_node.specs.NumberedNodes.{ShowsNumbered, at_whom};
 ghost use Rattle.kt_node.specs.Links.{NodeLinks, ShowsLinks, IsStep, TakesNext};
 ghost use Rattle.kt_node.specs.declared.node.Output.{Output};
 ghost use Rattle.kt_node.specs.declared.node.Taken.TheVariants.{Step, Again};
 ghost use Rattle.kt_machine.specs.Acts.{stepper};
-ghost use Rattle.kt_node.specs.Erasing.{name_in, erased_node, erased_parcels, rows_from};
+ghost use Rattle.kt_node.specs.Erasing.{name_in, erased_node, erased_parcels, rows_from_each};
 ghost use Rattle.kt_merge.specs.Reading.{PartRead};
 ghost use Rattle.kt_merge.specs.Merging.{IsMergeOf};
-ghost use Rattle.kt_node.specs.NetParts.{AreRowsOfNet};
+ghost use Rattle.kt_node.specs.NetParts.{AreRowsOfNet, AreRowsOfNetFrom};
 ghost use Rattle.kt_node.specs.Links.{NodeLinks};
-ghost use Rattle.kt_node.specs.Meetings.{last_label, meeting_of};
+ghost use Rattle.kt_node.specs.Meetings.{far, last_label, meeting_of};
 ghost use Rattle.kt_node.specs.declared.node.Envelope.{Envelope};
 ghost use Rattle.kt_node.specs.declared.node.NodeFault.TheVariants as fault;
 ghost use Rattle.kt_node.specs.declared.parcels.NodeParcel.TheVariants.{App};
@@ -52,36 +53,43 @@ pub fn nets_are_runs()
     ensures channels { (n first : ℕ) (steps : List ProtocolStep) (p q : ℕ) →
         (net_run (opening_net n first) steps).channel p q
         ≡ erased_parcels (name_in (late_run (opening n) steps).log) ((seen first (late_run (opening n) steps)).channel p q) }
-    ensures numbered { (n first : ℕ) (steps : List ProtocolStep) →
-        numbered (rows_from first (net_run (opening_net n first) steps).rows) ≡ Some (late_run (opening n) steps).log }
+
+    // Where each node counts its messages on from a label of its own, that changes these labels, and nothing else.
+    ensures raised { (n : ℕ) (first : ℕ → ℕ) (steps : List ProtocolStep) →
+        net_run (opening_from n first) steps ≡ raised_net first (net_run (opening_net n 0) steps) }
+    ensures numbered { (n : ℕ) (first : ℕ → ℕ) (steps : List ProtocolStep) →
+        numbered (rows_from_each first (net_run (opening_from n first) steps).rows) ≡ Some (late_run (opening n) steps).log }
 
     // Of what comes nothing is forged: who is asked to join is asked to join an instance whose initiator is there, and in it;
     // a reply is of who was asked and has not replied; a decision is of who asked.
-    ensures begun { (n first : ℕ) (steps : List ProtocolStep) (p q : ℕ) (k : InstName) (kind : Kind) (label : ℕ) (rest : List NodeParcel) →
-        let net = net_run (opening_net n first) steps in
+    ensures begun { (n : ℕ) (first : ℕ → ℕ) (steps : List ProtocolStep) (p q : ℕ) (k : InstName) (kind : Kind)
+        (label : ℕ) (rest : List NodeParcel) →
+        let net = net_run (opening_from n first) steps in
         net.channel q p ≡ Ask k kind label ∷ rest → is_begun (net.nodes p) k ≡ true }
-    ensures owed { (n first : ℕ) (steps : List ProtocolStep) (p q : ℕ) (k : InstName) (w : Bool) (rest : List NodeParcel) →
-        let net = net_run (opening_net n first) steps in
+    ensures owed { (n : ℕ) (first : ℕ → ℕ) (steps : List ProtocolStep) (p q : ℕ) (k : InstName) (w : Bool)
+        (rest : List NodeParcel) →
+        let net = net_run (opening_from n first) steps in
         net.channel q p ≡ Reply k w ∷ rest → ((net.nodes p).part.asked q ≡ true) × ((net.nodes p).answered q ≡ false) }
-    ensures asked { (n first : ℕ) (steps : List ProtocolStep) (p q : ℕ) (k : InstName) (c : Bool) (rest : List NodeParcel) →
-        let net = net_run (opening_net n first) steps in
+    ensures asked { (n : ℕ) (first : ℕ → ℕ) (steps : List ProtocolStep) (p q : ℕ) (k : InstName) (c : Bool)
+        (rest : List NodeParcel) →
+        let net = net_run (opening_from n first) steps in
         net.channel q p ≡ Decide k c ∷ rest → is_in ((net.nodes p).asks q) k ≡ true }
 
     // Tables answer for the list of calls of each node, also after one more step.
-    ensures speaks { (n first : ℕ) (steps : List ProtocolStep) (p : ℕ) →
-        Speaks (((net_run (opening_net n first) steps).nodes p).calls) }
-    ensures speaks_next { (n first : ℕ) (steps : List ProtocolStep) (x : ProtocolStep) (p : ℕ) →
-        Speaks (((net_step (net_run (opening_net n first) steps) x).nodes p).calls) }
+    ensures speaks { (n : ℕ) (first : ℕ → ℕ) (steps : List ProtocolStep) (p : ℕ) →
+        Speaks (((net_run (opening_from n first) steps).nodes p).calls) }
+    ensures speaks_next { (n : ℕ) (first : ℕ → ℕ) (steps : List ProtocolStep) (x : ProtocolStep) (p : ℕ) →
+        Speaks (((net_step (net_run (opening_from n first) steps) x).nodes p).calls) }
 {}
 
 /// The log of a net, whichever label its nodes count on from: all is promised of it that is promised of a run's.
 pub fn logs_of_nets()
-    ensures promised { (n first : ℕ) (steps : List ProtocolStep) (log : List Event) →
-        numbered (rows_from first (net_run (opening_net n first) steps).rows) ≡ Some log → IsPromised log }
+    ensures promised { (n : ℕ) (first : ℕ → ℕ) (steps : List ProtocolStep) (log : List Event) →
+        numbered (rows_from_each first (net_run (opening_from n first) steps).rows) ≡ Some log → IsPromised log }
 
     // So it has certificates, and they pass.
-    ensures certified { (n first : ℕ) (steps : List ProtocolStep) (log : List Event) →
-        numbered (rows_from first (net_run (opening_net n first) steps).rows) ≡ Some log → IsCertified log }
+    ensures certified { (n : ℕ) (first : ℕ → ℕ) (steps : List ProtocolStep) (log : List Event) →
+        numbered (rows_from_each first (net_run (opening_from n first) steps).rows) ≡ Some log → IsCertified log }
 {
     nets_are_runs();
     kt_protocol::logs_of_late_runs();
@@ -98,30 +106,37 @@ pub fn acts_of_nets()
     ensures clocked { (n first : ℕ) (steps : List ProtocolStep) (x : ProtocolStep) →
         clocked_acts (clocked_run (opening_clocked n first) steps) x
         ≡ seen_acts (seen first (late_run (opening n) steps)) x }
+
+    // Where each node counts its messages on from a label of its own, they are the same.
+    ensures raised { (n : ℕ) (first : ℕ → ℕ) (steps : List ProtocolStep) (x : ProtocolStep) →
+        net_acts (net_run (opening_from n first) steps) x ≡ net_acts (net_run (opening_net n 0) steps) x }
+    ensures clocked_raised { (n : ℕ) (first : ℕ → ℕ) (steps : List ProtocolStep) (x : ProtocolStep) →
+        clocked_acts (clocked_run (opening_clocked_from n first) steps) x
+        ≡ clocked_acts (clocked_run (opening_clocked n 0) steps) x }
 {}
 
 /// Files of single processes are enough: the rows of a net with clocks, sorted by clock and then by process, are those of
 /// another run of it, in which each process has the same rows with the same clocks.
 pub fn order_of_nets()
     // Without its clocks it is a net.
-    ensures unclocked { (n first : ℕ) (steps : List ProtocolStep) →
-        map (λ r. r.row) (clocked_run (opening_clocked n first) steps).rows ≡ (net_run (opening_net n first) steps).rows }
+    ensures unclocked { (n : ℕ) (first : ℕ → ℕ) (steps : List ProtocolStep) →
+        map (λ r. r.row) (clocked_run (opening_clocked_from n first) steps).rows ≡ (net_run (opening_from n first) steps).rows }
 
     // Sorted so, its rows are those of another run, and each process has its rows there.
-    ensures sorted { (n first : ℕ) (steps : List ProtocolStep) →
-        (ys : List ProtocolStep) × AreByClock 0 0 (clocked_run (opening_clocked n first) ys).rows
-        × ((p : ℕ) → rows_of p (clocked_run (opening_clocked n first) ys).rows
-        ≡ rows_of p (clocked_run (opening_clocked n first) steps).rows) }
+    ensures sorted { (n : ℕ) (first : ℕ → ℕ) (steps : List ProtocolStep) →
+        (ys : List ProtocolStep) × AreByClock 0 0 (clocked_run (opening_clocked_from n first) ys).rows
+        × ((p : ℕ) → rows_of p (clocked_run (opening_clocked_from n first) ys).rows
+        ≡ rows_of p (clocked_run (opening_clocked_from n first) steps).rows) }
 
     // There is one way to sort them: so whatever is sorted and has these parts is the rows of a run, and all is
     // promised of its log.
-    ensures merged { (n first : ℕ) (steps : List ProtocolStep) (rows : List ClockedRow) → AreByClock 0 0 rows →
-        ((p : ℕ) → rows_of p rows ≡ rows_of p (clocked_run (opening_clocked n first) steps).rows) →
-        (ys : List ProtocolStep) × (rows ≡ (clocked_run (opening_clocked n first) ys).rows) }
-    ensures promised { (n first : ℕ) (steps : List ProtocolStep) (rows : List ClockedRow) (log : List Event) →
+    ensures merged { (n : ℕ) (first : ℕ → ℕ) (steps : List ProtocolStep) (rows : List ClockedRow) → AreByClock 0 0 rows →
+        ((p : ℕ) → rows_of p rows ≡ rows_of p (clocked_run (opening_clocked_from n first) steps).rows) →
+        (ys : List ProtocolStep) × (rows ≡ (clocked_run (opening_clocked_from n first) ys).rows) }
+    ensures promised { (n : ℕ) (first : ℕ → ℕ) (steps : List ProtocolStep) (rows : List ClockedRow) (log : List Event) →
         AreByClock 0 0 rows →
-        ((p : ℕ) → rows_of p rows ≡ rows_of p (clocked_run (opening_clocked n first) steps).rows) →
-        numbered (rows_from first (map (λ r. r.row) rows)) ≡ Some log → IsPromised log }
+        ((p : ℕ) → rows_of p rows ≡ rows_of p (clocked_run (opening_clocked_from n first) steps).rows) →
+        numbered (rows_from_each first (map (λ r. r.row) rows)) ≡ Some log → IsPromised log }
 {
     logs_of_nets();
 }
@@ -129,19 +144,19 @@ pub fn order_of_nets()
 /// Links may lose parcels, give them again and let one overtake another: where each node takes of each other one exactly the
 /// next number, and else nothing, a net is one whose links do none of that.
 pub fn numbered_nets_are_nets()
-    ensures nets { (n first : ℕ) (xs : List NumberedStep) → (steps : List ProtocolStep)
-        × (unnumbered (numbered_run (opening_numbered n first) xs) ≡ clocked_run (opening_clocked n first) steps) }
+    ensures nets { (n : ℕ) (first : ℕ → ℕ) (xs : List NumberedStep) → (steps : List ProtocolStep)
+        × (unnumbered (numbered_run (opening_numbered_from n first) xs) ≡ clocked_run (opening_clocked_from n first) steps) }
 
     // Of what each process put for another one, that one took so many, in order; another number changes nothing.
-    ensures taken { (n first : ℕ) (xs : List NumberedStep) (p q : ℕ) →
-        (numbered_run (opening_numbered n first) xs).taken p q
-        ≤ length ((numbered_run (opening_numbered n first) xs).put p q) }
+    ensures taken { (n : ℕ) (first : ℕ → ℕ) (xs : List NumberedStep) (p q : ℕ) →
+        (numbered_run (opening_numbered_from n first) xs).taken p q
+        ≤ length ((numbered_run (opening_numbered_from n first) xs).put p q) }
     ensures other { (w : NumberedNet) (p q : ℕ) (able : Bool) (number : ℕ) → number ≢ w.taken q p + 1 →
         numbered_step w (happens.Comes p q able number) ≡ w }
 
     // So all is promised of its log.
-    ensures promised { (n first : ℕ) (xs : List NumberedStep) (log : List Event) →
-        numbered (rows_from first (map (λ r. r.row) (numbered_run (opening_numbered n first) xs).rows)) ≡ Some log →
+    ensures promised { (n : ℕ) (first : ℕ → ℕ) (xs : List NumberedStep) (log : List Event) →
+        numbered (rows_from_each first (map (λ r. r.row) (numbered_run (opening_numbered_from n first) xs).rows)) ≡ Some log →
         IsPromised log }
 {
     logs_of_nets();
@@ -150,9 +165,10 @@ pub fn numbered_nets_are_nets()
 /// What the calls of a `Node` do is what happens to its process in a net with numbers: so nodes whose host hands over parcels
 /// in any order, often or never, are such a net.
 pub fn nodes_of_numbered_nets()
-    ensures opens { (n first p : ℕ) (k : NodeLinks) → ShowsLinks k ((opening_net n first).nodes p) → k.clock ≡ 0 →
+    ensures opens { (n : ℕ) (first : ℕ → ℕ) (p : ℕ) (k : NodeLinks) →
+        ShowsLinks k ((opening_net n (first p)).nodes p) → k.clock ≡ 0 →
         ((q : ℕ) → slice_index k.sent q ≡ 0) → ((q : ℕ) → slice_index k.taken q ≡ 0) →
-        ShowsNumbered k (opening_numbered n first) p }
+        ShowsNumbered k (opening_numbered_from n first) p }
     ensures own { (w : NumberedNet) (x : ProtocolStep) (i : Input) (old new : NodeLinks) (out : Output) →
         ShowsNumbered old w (stepper x) → input_at (w.nodes (stepper x)) x [] ≡ Some i →
         IsStep old new 0 (w.nodes (stepper x)) i out → new.taken ≡ old.taken →
@@ -167,6 +183,13 @@ pub fn nodes_of_numbered_nets()
         ShowsNumbered new (numbered_step w (happens.Comes p q able number)) p }
     ensures others { (w : NumberedNet) (x : NumberedStep) (u : ℕ) (k : NodeLinks) → u ≢ at_whom x →
         ShowsNumbered k w u → ShowsNumbered k (numbered_step w x) u }
+
+    // Nothing that comes leaps in 2^40 steps, where the sender's first label and these steps together are at most 2^40 above
+    // the receiver's first label.
+    ensures near { (n : ℕ) (first : ℕ → ℕ) (xs : List NumberedStep) (p q : ℕ) (k : NodeLinks) (e : Envelope) →
+        let w = numbered_run (opening_numbered_from n first) xs in ShowsNumbered k w p →
+        with_number e.number (w.put q p) ≡ envelope e.clock e.parcel ∷ [] → length xs ≤ far →
+        first q + length xs ≤ first p + far → meeting_of k q e ≢ Err fault.Leap }
 {}
 
 /// What a node's step needs of its object, for every state of a node and every input.
@@ -222,14 +245,18 @@ pub fn own_parts()
 {}
 
 /// Where each node of a net writes a part, its rows with their clocks, the parts' merge has a log, and all is promised of it.
+/// A merge takes the first message of a process to have the label 1.
 pub fn merges_of_nets()
-    ensures { (n : ℕ) (steps : List ProtocolStep) (parts : List PartRead) (rows : List ClockedRow) → IsMergeOf parts rows →
-        AreRowsOfNet n steps rows →
+    ensures from_none { (n : ℕ) (steps : List ProtocolStep) (parts : List PartRead) (rows : List ClockedRow) →
+        IsMergeOf parts rows → AreRowsOfNet n steps rows →
+        (log : List Event) × (numbered (without_clocks rows) ≡ Some log) × IsPromised log × IsCertified log }
+
+    // So it has where each node counts its messages on from a label of its own, and writes labels that count on from 0.
+    ensures from_each { (n : ℕ) (first : ℕ → ℕ) (steps : List ProtocolStep) (parts : List PartRead)
+        (rows : List ClockedRow) → IsMergeOf parts rows → AreRowsOfNetFrom n first steps rows →
         (log : List Event) × (numbered (without_clocks rows) ≡ Some log) × IsPromised log × IsCertified log }
 {
-    nets_are_runs();
     logs_of_nets();
-    order_of_nets();
 }
 
 /// How a node meets a parcel of a process, for every node and every parcel. What is its own goes from that process to it.

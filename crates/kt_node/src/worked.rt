@@ -1,13 +1,13 @@
 //! The definitions on worked runs.
 
-ghost use Rattle.std.specs.Prelude.{◌≡◌, pos, true, Some, [], ◌∷◌, map};
-ghost use Rattle.kt_protocol.specs.States.{Send};
+ghost use Rattle.std.specs.Prelude.{◌≡◌, ◌*◌, pos, true, Some, [], ◌∷◌, map};
+ghost use Rattle.kt_protocol.specs.States.{Send, Take};
 ghost use Rattle.kt_protocol.specs.WorkedRuns as worked;
-ghost use Rattle.kt_meaning.specs.Names.{named, numbered};
+ghost use Rattle.kt_meaning.specs.Names.{named, numbered, row_of};
 ghost use Rattle.kt_meaning.specs.WorkedNames.{two_processes_by_name};
-ghost use Rattle.kt_node.specs.Nets.{net_run, opening_net};
+ghost use Rattle.kt_node.specs.Nets.{net_run, opening_from, opening_net};
 ghost use Rattle.kt_node.specs.Clocks.{clocked_row, clocked_run, opening_clocked};
-ghost use Rattle.kt_node.specs.Erasing.{rows_from};
+ghost use Rattle.kt_node.specs.Erasing.{rows_from, rows_from_each};
 ghost use Rattle.kt_node.specs.Numbered.{Own, Comes, numbered_run, opening_numbered};
 ghost use Rattle.kt_spacetime.specs.declared.named_rows.NamedEvent.TheVariants.{Sent, Received};
 
@@ -30,6 +30,15 @@ pub fn worked_nets()
 
     // So they do by numbers, where each node's labels begin at 101.
     ensures undone { numbered (rows_from 100 (net_run (opening_net 3 100) worked.held_message_that_is_undone_steps).rows) ≡ Some worked.held_message_that_is_undone }
+
+    // So they do where those of process 0 begin at 1, of process 1 at 101, of process 2 at 201.
+    ensures undone_from_each { numbered (rows_from_each (λ p. 100 * p)
+        (net_run (opening_from 3 (λ p. 100 * p)) worked.held_message_that_is_undone_steps).rows)
+        ≡ Some worked.held_message_that_is_undone }
+    ensures own_labels { (net_run (opening_from 2 (λ p. 100 * p))
+        (Send 0 1 (pos 7) ∷ Send 1 0 (pos 8) ∷ Take 1 0 true ∷ Take 0 1 true ∷ [])).rows
+        ≡ row_of 0 (Sent 1 (pos 7) 1) ∷ row_of 1 (Sent 0 (pos 8) 101)
+        ∷ row_of 1 (Received 0 1) ∷ row_of 0 (Received 1 101) ∷ [] }
 
     // A step without a row takes time too: 0 takes an ask at 4, and tells nothing.
     ensures clocks { map (λ r. r.clock) (clocked_run (opening_clocked 2 0) worked.two_checkpoints_at_once_steps).rows

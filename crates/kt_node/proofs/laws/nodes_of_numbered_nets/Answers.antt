@@ -1,4 +1,5 @@
 use Rattle.std.proofs.Common.{refl}
+use Rattle.kt_node.proofs.NearNets.{never_leaps}
 use Rattle.kt_node.proofs.NumberedCalls.{again_call, comes_call, others_stay, own_call}
 use Rattle.kt_node.proofs.laws.nodes_of_numbered_nets.Goals as goal
 
@@ -16,3 +17,6 @@ returns-clause-again c = again_call
 
 pub returns-clause-others : goal.returns-clause-others
 returns-clause-others c = others_stay
+
+pub returns-clause-near : goal.returns-clause-near
+returns-clause-near c = never_leaps

@@ -70,3 +70,11 @@ returns-clause-clocks c = refl
 pub returns-clause-overtaken : goal.returns-clause-overtaken
 unfolding must_take must_roll is_asked_in_checkpoint checkpoint_label is_asked_in_rollback rollback_label count_peers
 returns-clause-overtaken c = refl
+
+pub returns-clause-undone_from_each : goal.returns-clause-undone_from_each
+unfolding must_take must_roll is_asked_in_checkpoint checkpoint_label is_asked_in_rollback rollback_label count_peers
+returns-clause-undone_from_each c = refl
+
+pub returns-clause-own_labels : goal.returns-clause-own_labels
+unfolding must_take must_roll is_asked_in_checkpoint checkpoint_label is_asked_in_rollback rollback_label count_peers
+returns-clause-own_labels c = refl

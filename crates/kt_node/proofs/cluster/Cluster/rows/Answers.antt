@@ -11,9 +11,9 @@ returns-clause-promised c =
     let inside = c.self.inside in
     let s : ClusterState = record { nodes = inside.nodes.items; on_way = inside.on_way.items; rows = inside.rows.items; first = inside.first } in
     subst (λ (s : ClusterState). ArePromised s.first c.as_slice.result.now) c.self.view_is (subst (ArePromised inside.first) (sym c.as_slice.ensures.value)
-    (promised_rows c.nets_are_runs.ensures.numbered c.logs_of_nets.ensures.promised c.logs_of_nets.ensures.certified s c.self.invariant.steps c.self.invariant.reached))
+    (promised_rows (λ n first. c.nets_are_runs.ensures.numbered n (λ p. first)) (λ n first. c.logs_of_nets.ensures.promised n (λ p. first)) (λ n first. c.logs_of_nets.ensures.certified n (λ p. first)) s c.self.invariant.steps c.self.invariant.reached))
 
 pub returns-clause-merged : goal.returns-clause-merged
 returns-clause-merged c = λ rows log a parts e.
-    c.order_of_nets.ensures.promised (length c.self.inside.nodes.items) c.self.inside.first c.self.invariant.steps rows log a (λ p. parts p ∙ ap (rows_of p) (c.as_slice.ensures.value ∙ c.self.invariant.reached.rows))
+    c.order_of_nets.ensures.promised (length c.self.inside.nodes.items) (λ p. c.self.inside.first) c.self.invariant.steps rows log a (λ p. parts p ∙ ap (rows_of p) (c.as_slice.ensures.value ∙ c.self.invariant.reached.rows))
     (subst (λ (s : ClusterState). numbered (rows_from s.first (map (λ r. r.row) rows)) ≡ Some log) (sym c.self.view_is) e)
