@@ -3,7 +3,9 @@
 use crate::node::input::KtInput;
 use crate::node::output::KtOutput;
 use crate::node::parcel::KtParcel;
+use crate::node::refusal::Refusal;
 use crate::node::{kt_node_look, kt_node_new, kt_node_step, kt_row_text};
+use kt_node::{ManagerFault, NodeFault};
 use std::alloc::Global;
 use std::rt::HostRuntime;
 
@@ -214,4 +216,37 @@ fn spells(rt: HostRuntime) {
     assert!(rt; line.starts_with(b"1,sent,0,1,-7,m0.1\n") && len == 19 && line[19] == 7);
     let none = node.output.rows[1];
     assert!(rt; kt_row_text(rt.alloc(), &none, 1, 0, &mut line, &mut len) == 2 && len == 0);
+}
+
+// A manager's fault.
+fn of_manager(fault: ManagerFault) -> Refusal {
+    Refusal::Node(NodeFault::Manager(fault))
+}
+
+// Each refusal has the number that include/koo_toueg.h gives it, and the status of that.
+#[test]
+fn numbers_refusals(rt: HostRuntime) {
+    let refusals = [
+        (Refusal::State, 1),
+        (Refusal::Input, 2),
+        (of_manager(ManagerFault::Unknown), 3),
+        (of_manager(ManagerFault::Itself), 4),
+        (of_manager(ManagerFault::Waits), 5),
+        (of_manager(ManagerFault::HeldFirst), 6),
+        (of_manager(ManagerFault::HoldsNone), 7),
+        (of_manager(ManagerFault::LabelsSpent), 8),
+        (of_manager(ManagerFault::CountsSpent), 9),
+        (Refusal::Node(NodeFault::ClockSpent), 10),
+        (Refusal::Node(NodeFault::Gap(3)), 11),
+        (of_manager(ManagerFault::Memory), 12),
+        (Refusal::Memory, 12),
+        (Refusal::Node(NodeFault::Astray), 13),
+        (Refusal::Node(NodeFault::Leap), 14),
+        (Refusal::Node(NodeFault::Stale), 15),
+        (of_manager(ManagerFault::NotBegun), 16),
+    ];
+    for (refusal, number) in &refusals {
+        let status = if *number == 12 { 4 } else { 2 };
+        assert!(rt; KtOutput::of_refusal(refusal).fault == *number && refusal.status() == status);
+    }
 }
