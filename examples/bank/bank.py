@@ -129,6 +129,10 @@ class Bank:
     def branch_folder(self, p):
         return self.folder / f"branch{p}"
 
+    def read(self, p, name):
+        """What a file of a branch has before its checksum."""
+        return (self.branch_folder(p) / name).read_bytes()[:-4]
+
     def log(self):
         """One log of all branches, which has to be that of a run."""
         log = koo_toueg.merge([(self.branch_folder(p) / "part").read_bytes() for p in range(self.count)])
@@ -140,11 +144,11 @@ class Bank:
 
     def steps(self):
         """How many steps the nodes made."""
-        return sum(json.loads((self.branch_folder(p) / "state").read_text())["numbers"][1] for p in range(self.count))
+        return sum(json.loads(self.read(p, "state"))["numbers"][1] for p in range(self.count))
 
     def saved(self, p, number):
         """What a branch saved as its so many-th checkpoint, 0 for the opening."""
-        return int((self.branch_folder(p) / f"saved{number}").read_text())
+        return int(self.read(p, f"saved{number}"))
 
 
 def recovery_lines(log, count):

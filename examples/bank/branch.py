@@ -28,7 +28,7 @@ class Stray(Exception):
 
 
 def frame(data):
-    """Bytes as they travel, with their checksum."""
+    """Bytes with their checksum, as they travel and as files have them."""
     return data + zlib.crc32(data).to_bytes(4, "little")
 
 
@@ -70,8 +70,12 @@ class Disk:
             give_up(os.EX_TEMPFAIL, "the folder has another owner")
 
     def read(self, name):
+        """What a file got that was replaced."""
         with open(os.open(name, os.O_RDONLY, dir_fd=self.folder), "rb") as file:
-            return file.read()
+            came = file.read()
+        if came != frame(came[:-4]):
+            raise OSError(f"{name} is damaged")
+        return came[:-4]
 
     def write(self, file, data):
         """Writes all of it, and makes it durable."""
@@ -80,10 +84,10 @@ class Disk:
         os.fsync(file)
 
     def replace(self, name, data):
-        """Makes a file durable in place of the one before."""
+        """Makes a file durable in place of the one before, with its checksum."""
         file = os.open("new", os.O_WRONLY | os.O_CREAT | os.O_TRUNC, 0o644, dir_fd=self.folder)
         try:
-            self.write(file, data)
+            self.write(file, frame(data))
         finally:
             os.close(file)
         os.rename("new", name, src_dir_fd=self.folder, dst_dir_fd=self.folder)
