@@ -2,6 +2,7 @@
 
 use crate::cases::Case;
 use crate::faults::{refused, value_of};
+use crate::plain::show_answers;
 use crate::texts::{Form, Text, show_written};
 use crate::walks::feed;
 use kt_certify::certify_stream;
@@ -43,7 +44,7 @@ fn show_legal<R: Print + AllocGlobal>(
 }
 
 /// Shows of a stored log how many certificates it has as it is read, what a walk of it holds, and its report as of a run of
-/// a plan; or why it has none, and at how many calls a reader may fail even then.
+/// a plan; or why it has none, at how many calls a reader may fail even then, and what other readers say of it.
 pub(crate) fn show_certified<R: Print + AllocGlobal>(
     rt: &R,
     plan: &Plan,
@@ -56,7 +57,8 @@ pub(crate) fn show_certified<R: Print + AllocGlobal>(
         Ok(list) => show_legal(rt, title, &text, list.len()),
         Err(fault) => {
             let reads = text.count_read_faults(rt.alloc());
-            println!(rt; "{title}: {fault}; {reads} reads may fail")
+            println!(rt; "{title}: {fault}; {reads} reads may fail")?;
+            show_answers(rt, bytes)
         }
     }
 }

@@ -5,7 +5,10 @@ use crate::certified::show_certified;
 use crate::faults::refused;
 use crate::meetings::show_meetings;
 use crate::merging::{show_merge_fault, show_merged};
+use crate::node_texts::show_node_texts;
+use crate::plays::show_plays;
 use crate::runs::show_run;
+use crate::tables::show_tables;
 use crate::texts::{Form, Text, show_count, show_text};
 use crate::told::told;
 use kt_chain::{CertTextFault, read_certs};
@@ -27,10 +30,14 @@ enum Kind {
     MergeFaults,
     Meetings,
     Runs,
+    Tables,
+    NodeTexts,
+    Plays,
 }
 
 // The files in the order in which they are shown; whether their texts are told by lines.
-static FILES: [(&str, Kind, bool); 13] = [
+static FILES: [(&str, Kind, bool); 18] = [
+    ("tables", Kind::Tables, false),
     ("logs", Kind::Logs, false),
     ("long-logs", Kind::Logs, true),
     ("certificates", Kind::Certificates, false),
@@ -42,8 +49,12 @@ static FILES: [(&str, Kind, bool); 13] = [
     ("long-steps", Kind::Steps, true),
     ("merged", Kind::Merged, false),
     ("merge-faults", Kind::MergeFaults, false),
+    ("long-merge-faults", Kind::MergeFaults, true),
     ("meetings", Kind::Meetings, false),
     ("node-steps", Kind::Runs, false),
+    ("node-texts", Kind::NodeTexts, true),
+    ("plays", Kind::Plays, false),
+    ("long-plays", Kind::Plays, true),
 ];
 
 fn count_rows(alloc: Global, text: &[u8]) -> Result<usize, LogFault> {
@@ -91,6 +102,9 @@ fn show_case<R: Print + AllocGlobal>(
         Kind::MergeFaults => show_merge_fault(rt, case),
         Kind::Meetings => show_meetings(rt, case),
         Kind::Runs => show_run(rt, case),
+        Kind::Tables => show_tables(rt, case),
+        Kind::NodeTexts => show_node_texts(rt, case),
+        Kind::Plays => show_plays(rt, case),
     }
 }
 
