@@ -2,16 +2,17 @@
 //!
 //! A line says the files of the scenario and of the steps, `-` for none, the number of the object that has a trouble, counted
 //! from 1 in the order of the processes, each with its spares behind it, 0 for all, and the trouble: the call, which one, and
-//! its answer. Before it stands how the run is made: `play`, or `live`, with its texts; `meet` for a run in threads whose texts
-//! are not shown; `fail_played` or `fail_live` for one by writers that fail. Behind `run` or `threads` stands the file of a
-//! scenario alone, which is run over counters.
+//! its answer. Before it stands how the run is made: `play`, or `live`, with its texts; `meet` for a run in threads of which the
+//! report alone is shown; `fail_played` or `fail_live` for one by writers that fail; `left` for what a run in threads leaves.
+//! Behind `run` or `threads` stands the file of a scenario alone, which is run over counters; behind `miscast` two, of which the
+//! first is run in threads over objects that the second asks for.
 
 use crate::commands::{Host, plan_in, steps_in, word};
-use crate::running::{Way, show_counters_of};
+use crate::running::{Way, show_counters_of, show_live};
 use crate::staged::{Meeting, Staged, Trouble};
 use crate::streams::Paper;
 use kt_base::Memory;
-use kt_object::{Object, SlotBook, Sum};
+use kt_object::{Last, Object, SlotBook, SlotGuard, Sum};
 use kt_plan::{Plan, Step};
 use kt_program::{AppFault, cast_of, live_plan, play_plan};
 use std::alloc::Global;
@@ -40,6 +41,18 @@ impl Case<'_> {
         } else {
             Trouble::Absent
         }
+    }
+
+    // The object with this number, which holds this slot.
+    fn object(&self, number: u64, guard: SlotGuard) -> Result<Staged, Memory> {
+        Ok(Staged {
+            sum: Sum::new(guard),
+            number,
+            trouble: self.trouble_of(number),
+            meeting: Arc::try_clone(self.meeting)?,
+            saves: Cell::new(0),
+            restores: 0,
+        })
     }
 }
 
@@ -73,6 +86,11 @@ impl Papers {
             report: Paper::new(alloc, call_for(2, text, call)),
         }
     }
+
+    // Whether nothing was written of what comes later than the text with this number.
+    fn is_blank_behind(&self, text: u8) -> bool {
+        (text > 0 || self.cert.is_blank()) && (text > 1 || self.report.is_blank())
+    }
 }
 
 // Makes a run over the objects of its case, one step after another or in threads.
@@ -87,15 +105,7 @@ fn run_staged<R: Host>(
     let mut made: u64 = 0;
     let cast = cast_of(alloc, case.plan, |_kind: u8| -> Result<Object, Memory> {
         made = made.saturating_add(1);
-        let staged = Staged {
-            sum: Sum::new(book.open()?),
-            number: made,
-            trouble: case.trouble_of(made),
-            meeting: Arc::try_clone(case.meeting)?,
-            saves: Cell::new(0),
-            restores: 0,
-        };
-        Ok(Box::new(alloc, staged)?)
+        Ok(Box::new(alloc, case.object(made, book.open()?)?)?)
     })?;
     let Papers { log, cert, report } = papers;
     if threads {
@@ -114,7 +124,8 @@ fn end_of<R: Host>(rt: &R, case: &Case, threads: bool, papers: &mut Papers) -> E
     Ended { fault, freed, out }
 }
 
-// At how many calls the writer of a text can fail: at each the run ends with a write fault, and no slot is out.
+// At how many calls the writer of a text can fail: at each the run ends with a write fault, no slot is out, and no later text
+// is begun.
 fn calls_that_fail<R: Host>(rt: &R, case: &Case, threads: bool, text: u8) -> usize {
     for call in 0..MOST_CALLS {
         let mut papers = Papers::new(rt.alloc(), text, call);
@@ -123,7 +134,7 @@ fn calls_that_fail<R: Host>(rt: &R, case: &Case, threads: bool, text: u8) -> usi
                 fault: Some(AppFault::Write),
                 out: 0,
                 ..
-            } => {}
+            } if papers.is_blank_behind(text) => {}
             Ended { fault: None, .. } => return call,
             _ => return MOST_CALLS,
         }
@@ -153,14 +164,57 @@ fn show_texts<R: Print>(rt: &R, case: &Case, ended: Ended, papers: &Papers) -> i
     show_end(rt, case, ended)
 }
 
+// Shows the report of a run, and how it ended.
+fn show_report<R: Print>(rt: &R, case: &Case, ended: Ended, papers: &Papers) -> io::Result<()> {
+    print!(rt; "{}", papers.report.text())?;
+    show_end(rt, case, ended)
+}
+
 // Shows a run, with its texts where there is one order of its steps.
 fn show_run<R: Host>(rt: &R, case: &Case, way: &str) -> io::Result<()> {
     let mut papers = Papers::new(rt.alloc(), 3, 0);
     let ended = end_of(rt, case, way != "play", &mut papers);
     match way {
-        "meet" => show_end(rt, case, ended),
+        "meet" => show_report(rt, case, ended, &papers),
         _ => show_texts(rt, case, ended, &papers),
     }
+}
+
+// Shows how many slots come free and are out once a run is over.
+fn show_slots<R: Print>(rt: &R, book: &mut SlotBook) -> io::Result<()> {
+    let freed = book.collect();
+    println!(rt; "slots freed: {freed}, out: {}", book.out())
+}
+
+// Runs the objects of a case in threads, and shows what is left.
+fn show_left<R: Host>(rt: &R, case: &Case) -> io::Result<()> {
+    let (alloc, mut book, mut made) = (rt.alloc(), SlotBook::new(rt.alloc()), 0u64);
+    let cast = cast_of(alloc, case.plan, |_kind: u8| -> Result<Object, Memory> {
+        made = made.saturating_add(1);
+        Ok(Box::new(alloc, case.object(made, book.open()?)?)?)
+    });
+    let Ok(cast) = cast else {
+        return Err(io::Error::from(io::ErrorKind::OutOfMemory));
+    };
+    show_live(rt, case.plan, cast, &mut book)?;
+    show_slots(rt, &mut book)
+}
+
+// Runs a plan in threads over the objects that another one asks for, and shows what is left.
+fn show_miscast<R: Host>(rt: &R, plan: &Plan, other: &Plan) -> io::Result<()> {
+    let (alloc, mut book) = (rt.alloc(), SlotBook::new(rt.alloc()));
+    let cast = cast_of(alloc, other, |kind: u8| -> Result<Object, Memory> {
+        let guard = book.open()?;
+        match kind {
+            1 => Ok(Box::new(alloc, Last::new(guard))?),
+            _ => Ok(Box::new(alloc, Sum::new(guard))?),
+        }
+    });
+    let Ok(cast) = cast else {
+        return Err(io::Error::from(io::ErrorKind::OutOfMemory));
+    };
+    show_live(rt, plan, cast, &mut book)?;
+    show_slots(rt, &mut book)
 }
 
 // Shows the run of a line with this plan and these steps.
@@ -183,6 +237,7 @@ fn show_made<R: Host>(
     match way {
         "fail_played" => show_calls(rt, &case, false),
         "fail_live" => show_calls(rt, &case, true),
+        "left" => show_left(rt, &case),
         _ => show_run(rt, &case, way),
     }
 }
@@ -198,6 +253,7 @@ fn show_planned<R: Host>(rt: &R, way: &str, line: &str, plan: &Plan) -> io::Resu
     match way {
         "run" => show_counters_of(rt, &Way::Run, plan),
         "threads" => show_counters_of(rt, &Way::Live, plan),
+        "miscast" => show_miscast(rt, plan, &plan_in(rt, word(line, 1))?),
         _ => show_staged(rt, way, line, plan),
     }
 }
