@@ -48,3 +48,5 @@ pub mod OnWay
 pub mod Clustering
 pub mod Turning
 pub mod OwnMarks
+pub mod CallHistories
+pub mod NetHistories

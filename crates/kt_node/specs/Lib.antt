@@ -24,3 +24,4 @@ pub mod NumberedNodes
 pub mod Looks
 pub mod NetParts
 pub mod Clusters
+pub mod LoggedHistories
