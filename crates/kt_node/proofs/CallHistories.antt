@@ -313,5 +313,5 @@ module _ (first : ℕ) (log : List Event) (l : IsLegal log) (p : ℕ) where
       let f = front_by_rows in (
         messages_of first log f.0,
         ap (messages_of first log) (ap (λ (s : Past). take (s.permanent p) (s.live p)) (sym (done_past log)) ∙ f.1)
-        ∙ (map-append (call_of_deed (labelling first log).label) (own_permanent log p) f.0 ∙ ap (λ (cs : List Call). cs ++ messages_of first log f.0) (sym permanent_own)),
+            ∙ (map-append (call_of_deed (labelling first log).label) (own_permanent log p) f.0 ∙ ap (λ (cs : List Call). cs ++ messages_of first log f.0) (sym permanent_own)),
       )
