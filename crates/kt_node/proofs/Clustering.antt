@@ -1,6 +1,6 @@
 -- One step of a cluster is one of the net that it is.
-use Rattle.std.proofs.Common.{◌≡◌, ◌≢◌, ◌∙◌, ℕ, ◌<◌, Some, List, [], ◌∷◌, ◌++◌, length, map, refl, sym, ap, ap₂, subst, arith, inl, inr}
-use Rattle.std.specs.Prelude.{◌==◌, ◌&&◌, if◌then◌else◌, Option, Result, Ok, Err, IsErr, IsErrAnd, slice_index_or, slice_set}
+use Rattle.std.proofs.Common.{◌≡◌, ◌≢◌, ◌∙◌, ℕ, ◌+◌, ◌<◌, Some, List, [], ◌∷◌, ◌++◌, length, map, refl, sym, ap, ap₂, subst, arith, inl, inr}
+use Rattle.std.specs.Prelude.{◌==◌, ◌&&◌, if◌then◌else◌, Option, Result, Ok, Err, IsErr, IsErrAnd, slice_index, slice_index_or, slice_set}
 use Rattle.std.proofs.lemmas.Option.{get_or_from_slice_get}
 use Rattle.kt_meaning.proofs.Items.{item_there}
 use Rattle.kt_system.specs.ShownActs.{acts_shown}
@@ -30,12 +30,13 @@ use Rattle.kt_node.specs.declared.cluster.ClusterFault.TheVariants as fault
 use Rattle.kt_node.specs.declared.cluster.OnWay.{OnWay}
 use Rattle.kt_node.specs.declared.node.Output.{Output}
 use Rattle.kt_node.specs.declared.reach.Reaches.{Reaches}
-use Rattle.kt_node.specs.Clusters.{ClusterState, link, ShowsClocked, ShowsNet, net_after, IsRun, ArePromised, AreFresh, coming, coming_to, IsRefusedIn, IsSpeakable, IsTurn}
+use Rattle.kt_node.specs.Clusters.{ClusterState, link, ShowsClocked, ShowsNet, net_after, IsRun, ArePromised, AreFresh, coming, coming_to, IsRefusedIn, IsSpent, IsSpentIn, IsSpentAs, doing_at, IsPutOut, HasNextNumbers, IsSpeakable, IsTurn}
 use Rattle.kt_node.specs.Effects.{put_to, rows_told}
 use Rattle.kt_node.specs.Links.{NodeLinks, IsSameNode}
 use Rattle.kt_node.specs.Managers.{ShowsNode}
 use Rattle.kt_node.specs.Reaches.{HasReaches}
 use Rattle.kt_node.proofs.Messages.{shows_same}
+use Rattle.kt_node.proofs.Runs.{nodes_shown}
 
 pub size_set : (nodes : List NodeLinks) (p : ℕ) (new : NodeLinks) → length (slice_set nodes p new) ≡ length nodes
 size_set nodes p new = simp length-set
@@ -122,6 +123,10 @@ speaks_there law c steps x s b i e =
     ∙ (ap (λ (v : ClockedNet). v.nodes p) (ap (at_input w p (source_of x)) (comes_there c w x i s b e)) ∙ at_one_here p (node_after (w.nodes p) i).state w.nodes) in
     subst (λ (y : NodeState). Speaks y.calls) path (law n c.first steps x p)
 
+-- each node is that of its process
+me_there : (n first : ℕ) (steps : List ProtocolStep) (p : ℕ) → ((clocked_run (opening_clocked n first) steps).nodes p).me ≡ p
+me_there n first steps p = ap (λ (u : Net). (u.nodes p).me) (run_unclocked (opening_clocked n first) steps) ∙ ap (λ (y : NodeState). y.me) (nodes_shown n first steps p)
+
 -- the node that steps
 pub shows_stepper : (c : ClusterState) (w : ClockedNet) (p : ℕ) (k : NodeLinks) → ShowsNet c w → p < length c.nodes → k ≡ slice_index_or c.nodes p k → ShowsNode k.manager (w.nodes p)
 shows_stepper c w p k s b is = (subst (λ (m : NodeLinks). ShowsClocked m (w.nodes p) (w.clock p)) (sym is) (s.nodes p k b)).node.manager
@@ -205,6 +210,28 @@ module _ (c : ClusterState) (x : ProtocolStep) (nodes : List NodeLinks) (after w
         (subst (λ (ns : List NodeLinks). ShowsNet (record { nodes = ns; on_way = way; rows = rows; first = c.first }) (clocked_step (net_after c steps) x)) (sym (others stepping.0))
         (shows_turn c (net_after c steps) x stepping.0 (slice_index_or nodes (stepper x) stepping.0) after way rows out s few b (sym stepping.1) its_turn put told))
 
+    -- what it puts out
+    pub step_told : IsPutOut (net_after c steps) (net_after after_step (steps ++ x ∷ [])) x out
+    step_told =
+        let p = stepper x in
+        let y = (net_after c steps).nodes p in
+        let there = comes_there c (net_after c steps) x its_turn.input s few its_turn.comes in
+        let l : p < length nodes = (let m = as_many others in omega (arith, m, b)) in
+        let n = step_runs.nodes p stepping.0 l in record {
+          from = its_turn.sender ∙ (n.node.manager.holds.me ∙ me_there (length nodes) c.first (steps ++ x ∷ []) p);
+          clock = its_turn.told ∙ n.ticks;
+          rows = its_turn.done.rows ∙ sym (ap (λ (o : Option Input). (doing_at y o).rows) there);
+          acts = its_turn.done.acts ∙ sym (ap (λ (o : Option Input). (doing_at y o).acts) there);
+          parcels = λ q. its_turn.done.puts q ∙ sym (ap (λ (o : Option Input). (doing_at y o).puts q) there);
+        }
+
+    pub step_numbers : (k : NodeLinks) → HasNextNumbers (slice_index_or c.nodes (stepper x) k) (slice_index_or nodes (stepper x) k) out
+    step_numbers k =
+        let t = turn ((net_after c steps).nodes (stepper x)) k (s.nodes (stepper x) k b).node.manager (speaks_there law c steps x s few) in record {
+          numbers = λ q l. ap (λ (ns : List ℕ). slice_index ns q) t.numbers ∙ (t.sent q l ∙ ap (λ (ps : List NodeParcel). slice_index (slice_index_or c.nodes (stepper x) k).sent q + length ps) (sym (t.done.puts q)));
+          sent = sym t.numbers;
+        }
+
     pub step_acts : acts_shown out.effects.acts ≡ clocked_acts (net_after c steps) x
     step_acts = its_turn.done.acts ∙ acts_there c (net_after c steps) x stepping.0 (slice_index_or nodes (stepper x) stepping.0) after out s few its_turn
 
@@ -220,6 +247,18 @@ module _ (c : ClusterState) (x : ProtocolStep) (nodes : List NodeLinks) (after w
       → ((y : NodeState) (k : NodeLinks) → ShowsNode (slice_index_or c.nodes (stepper x) k).manager y → IsRefusedIn y (coming y x (link c.on_way (source_of x) (stepper x))) r)
       → (steps : List ProtocolStep) → IsRun c steps → IsRefusedIn ((net_after c steps).nodes (stepper x)) (coming_to (net_after c steps) x) r
   refusal r refused steps s = refused_there c (net_after c steps) x r s few (refused ((net_after c steps).nodes (stepper x)) stepping.0 (s.nodes (stepper x) stepping.0 b).node.manager)
+
+  -- whether it is refused for its clock
+  pub spending : {X : Type 0} (r : Result X ClusterFault)
+      → ((y : NodeState) (k : NodeLinks) → ShowsNode (slice_index_or c.nodes (stepper x) k).manager y
+      → IsSpentAs (IsSpent (slice_index_or c.nodes (stepper x) k).clock (coming y x (link c.on_way (source_of x) (stepper x))) (link c.on_way (source_of x) (stepper x))) r)
+      → (steps : List ProtocolStep) → IsRun c steps → IsSpentAs (IsSpentIn (net_after c steps) x) r
+  spending r spent steps s =
+      let w = net_after c steps in
+      let y = w.nodes (stepper x) in
+      let n = s.nodes (stepper x) stepping.0 b in
+      subst (λ (clock : ℕ). IsSpentAs (IsSpent clock (coming_to w x) (w.channel (source_of x) (stepper x))) r) n.ticks
+      (subst (λ (es : List Envelope). IsSpentAs (IsSpent (slice_index_or c.nodes (stepper x) stepping.0).clock (coming y x es) es) r) (s.links (source_of x) (stepper x) few) (spent y stepping.0 n.node.manager))
 
 pub same_err : {X : Type 0} (r : Result X ClusterFault) (f : ClusterFault) → IsErr r × IsErrAnd r (λ (g : ClusterFault). g ≡ f) → r ≡ Err f
 same_err (Ok x) f h = absurd (cc h.0)

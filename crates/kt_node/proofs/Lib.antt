@@ -47,6 +47,8 @@ mod NetMerges
 pub mod OnWay
 pub mod Clustering
 pub mod Turning
+pub mod Spending
+pub mod Wanting
 pub mod OwnMarks
 pub mod CallHistories
 pub mod NetHistories

@@ -42,6 +42,9 @@ own_turn old new ways y x i out e ticks left s = record {
   reaches = s.reaches;
   clock = s.clock ∙ (next_clock old.clock ∙ sym (ticks old.clock (link ways (source_of x) (stepper x))));
   told = s.told;
+  sender = s.sender;
+  sent = s.sent;
+  numbers = s.numbers;
   left = λ u v. same_left ways (source_of x) (stepper x) u v ∙ ap (λ (es : List Envelope). if u == source_of x && v == stepper x then es else link ways u v) (sym (left (link ways (source_of x) (stepper x))));
 }
 
@@ -63,6 +66,9 @@ front_turn old new before after y p q place able x out f e t is s =
       reaches = s.reaches;
       clock = s.clock ∙ sym (ap (clock_after old.clock (Comes q able x.parcel)) front);
       told = s.told;
+      sender = s.sender;
+      sent = s.sent;
+      numbers = s.numbers;
       left = λ u v. ap (λ (l : List OnWay). link l u v) is ∙ front_left before q p place x f e u v;
     }
 

@@ -1,5 +1,5 @@
 -- Nodes with links in one program, and which net with clocks they are.
-use Rattle.std.specs.Prelude.{◌≡◌, ◌<◌, ◌≤◌, ◌==◌, ◌&&◌, not, if◌then◌else◌, ℕ, Option, Some, None, Result, Ok, Err, List, [], ◌∷◌, length, map, take, slice_index_or}
+use Rattle.std.specs.Prelude.{◌≡◌, ◌<◌, ◌≤◌, ◌+◌, ◌-◌, ◌^◌, ◌==◌, ◌&&◌, not, if◌then◌else◌, ℕ, Option, Some, None, Result, Ok, Err, List, [], ◌∷◌, length, map, take, slice_index, slice_index_or}
 use Rattle.kt_meaning.specs.Past.{is_rollback_kind}
 use Rattle.kt_meaning.specs.Names.{numbered}
 use Rattle.kt_meaning.specs.Promised.{IsPromised, IsCertified}
@@ -8,11 +8,12 @@ use Rattle.kt_protocol.specs.States as protocol
 use Rattle.kt_machine.specs.Acts.{stepper}
 use Rattle.kt_spacetime.specs.declared.event.Event.{Event}
 use Rattle.kt_tables.specs.Calls.{Speaks}
-use Rattle.kt_node.specs.Nodes.{NodeState, Input, is_in_rollback}
+use Rattle.kt_system.specs.ShownActs.{acts_shown}
+use Rattle.kt_node.specs.Nodes.{NodeState, Input, Doing, nothing, is_in_rollback}
 use Rattle.kt_node.specs.Nodes as input
 use Rattle.kt_node.specs.NodeSteps.{node_after}
 use Rattle.kt_node.specs.Nets.{opening_net, has_some}
-use Rattle.kt_node.specs.Clocks.{Envelope, ClockedNet, envelope, source_of, front_input, input_at, clock_after, left_after, clocked_run, opening_clocked}
+use Rattle.kt_node.specs.Clocks.{Envelope, ClockedNet, envelope, source_of, front_input, input_at, clock_after, left_after, clocked_input, clocked_run, opening_clocked}
 use Rattle.kt_node.specs.Erasing.{rows_from}
 use Rattle.kt_spacetime.specs.declared.named_rows.ClockedRow.{ClockedRow}
 use Rattle.kt_node.specs.declared.cluster.ClusterFault.{ClusterFault}
@@ -20,9 +21,11 @@ use Rattle.kt_node.specs.declared.cluster.ClusterFault.TheVariants as fault
 use Rattle.kt_node.specs.declared.cluster.ClusterStep.{ClusterStep}
 use Rattle.kt_node.specs.declared.cluster.ClusterStep.TheVariants.{Send, Begin, Fail, Take}
 use Rattle.kt_node.specs.declared.cluster.OnWay.{OnWay}
+use Rattle.kt_node.specs.declared.node.NodeFault.{NodeFault}
+use Rattle.kt_node.specs.declared.node.NodeFault.TheVariants as node_fault
 use Rattle.kt_node.specs.declared.node.Output.{Output}
 use Rattle.kt_node.specs.declared.faults.ManagerFault.{ManagerFault}
-use Rattle.kt_node.specs.Effects.{IsDone}
+use Rattle.kt_node.specs.Effects.{IsDone, put_to, rows_told}
 use Rattle.kt_node.specs.Faults.{fault_at}
 use Rattle.kt_node.specs.Links.{NodeLinks, ShowsLinks, IsNodeRefusedAs}
 use Rattle.kt_node.specs.Reaches.{HasReaches}
@@ -113,6 +116,52 @@ IsRefusedIn y o (Err (fault.Node f)) = IsNodeRefusedAs (fault_coming y o) (Err f
 abbrev pub IsSpeakable : NodeState → ProtocolStep → List Envelope → Type 0
 IsSpeakable y x es = (i : Input) → input_at y x es ≡ Some i → Speaks ((node_after y i).state.calls)
 
+-- no clock follows for what comes to a node
+abbrev pub IsSpent : ℕ → Option Input → List Envelope → Type 0
+IsSpent clock None es = ⊥
+IsSpent clock (Some x) es = 2 ^ 64 - 1 ≤ clock_after clock x es
+
+abbrev pub IsSpentIn : ClockedNet → ProtocolStep → Type 0
+IsSpentIn w x = IsSpent (w.clock (stepper x)) (coming_to w x) (w.channel (source_of x) (stepper x))
+
+-- a call is refused for its clock exactly where this holds
+abbrev pub IsSpentOf : Type 0 → NodeFault → Type 0
+IsSpentOf P node_fault.ClockSpent = P
+IsSpentOf P node_fault.Astray = P → ⊥
+IsSpentOf P (node_fault.Gap n) = P → ⊥
+IsSpentOf P node_fault.Leap = P → ⊥
+IsSpentOf P node_fault.Stale = P → ⊥
+IsSpentOf P (node_fault.Manager f) = P → ⊥
+
+-- so is a step of a process that is there, where memory is no reason
+abbrev pub IsSpentAs : {X : Type 0} → Type 0 → Result X ClusterFault → Type 0
+IsSpentAs P (Ok x) = P → ⊥
+IsSpentAs P (Err fault.Unknown) = ⊥
+IsSpentAs P (Err fault.NothingToTake) = P → ⊥
+IsSpentAs P (Err fault.Memory) = Unit {0}
+IsSpentAs P (Err (fault.Node f)) = IsSpentOf P f
+
+-- what the node that steps does, if anything comes to it
+abbrev pub doing_at : NodeState → Option Input → Doing
+doing_at y None = nothing y
+doing_at y (Some x) = node_after y x
+
+abbrev pub doing_in : ClockedNet → ProtocolStep → Doing
+doing_in w x = doing_at (w.nodes (stepper x)) (clocked_input w x)
+
+-- a step from this net to that one puts out what its node does, with the clock that this has then
+pub record IsPutOut (w after : ClockedNet) (x : ProtocolStep) (out : Output) : Type 0 where
+  pub from : out.from ≡ stepper x
+  pub clock : out.clock ≡ after.clock (stepper x)
+  pub rows : rows_told out.effects.rows ≡ (doing_in w x).rows
+  pub acts : acts_shown out.effects.acts ≡ (doing_in w x).acts
+  pub parcels : (q : ℕ) → put_to out.effects.parcels q ≡ (doing_in w x).puts q
+
+-- its parcels have the numbers that follow those of the parcels that its node put before
+pub record HasNextNumbers (old new : NodeLinks) (out : Output) : Type 0 where
+  pub numbers : (q : ℕ) → q < 64 → slice_index out.numbers q ≡ slice_index old.sent q + length (put_to out.effects.parcels q)
+  pub sent : new.sent ≡ out.numbers
+
 -- the front of a link stands here
 pub record IsFront (on_way : List OnWay) (p q place : ℕ) : Type 0 where
   pub within : place < length on_way
@@ -127,5 +176,8 @@ pub record IsTurn (old new : NodeLinks) (before after : List OnWay) (y : NodeSta
   pub reaches : HasReaches old.reaches y.calls → HasReaches new.reaches (node_after y input).state.calls
   pub clock : new.clock ≡ clock_after old.clock input (link before (source_of x) (stepper x))
   pub told : out.clock ≡ new.clock
+  pub sender : out.from ≡ new.manager.me
+  pub sent : (q : ℕ) → q < 64 → slice_index new.sent q ≡ slice_index old.sent q + length ((node_after y input).puts q)
+  pub numbers : out.numbers ≡ new.sent
   pub left : (u v : ℕ) → link after u v
       ≡ (if u == source_of x && v == stepper x then left_after input (link before (source_of x) (stepper x)) else link before u v)

@@ -1,6 +1,6 @@
 //! A cluster: nodes with a link from each to each other one, in one program.
 
-ghost use Rattle.std.specs.Prelude.{◌≡◌, ◌≤◌, ◌↔◌, ℕ, [], ◌∷◌, ◌++◌, List, Some, length, map, IfOk, OnErr, IsErrOf};
+ghost use Rattle.std.specs.Prelude.{◌≡◌, ◌≤◌, ◌↔◌, ℕ, [], ◌∷◌, ◌++◌, List, Some, length, map, slice_index_or, IfOk, OnErr, IsErrOf};
 ghost use Rattle.kt_protocol.specs.States.{ProtocolStep};
 ghost use Rattle.kt_meaning.specs.Names.{numbered};
 ghost use Rattle.kt_meaning.specs.Promised.{IsPromised};
@@ -12,7 +12,8 @@ ghost use Rattle.kt_spacetime.specs.declared.named_rows.ClockedRow.{ClockedRow a
 ghost use Rattle.kt_spacetime.specs.ClockedRows.{rows_of};
 ghost use Rattle.kt_system.specs.ShownActs.{acts_shown};
 ghost use Rattle.kt_node.specs.Effects.{rows_told};
-ghost use Rattle.kt_node.specs.Clusters.{step_of, net_after, IsRun, AreFresh, ArePromised, coming_to, IsRefusedIn};
+ghost use Rattle.kt_node.specs.Links.{NodeLinks};
+ghost use Rattle.kt_node.specs.Clusters.{step_of, net_after, IsRun, AreFresh, ArePromised, coming_to, IsRefusedIn, IsSpentIn, IsSpentAs, IsPutOut, HasNextNumbers};
 ghost use Rattle.kt_node.specs.declared.cluster.ClusterFault.TheVariants as fault;
 
 use crate::node::{Node, NodeFault, Output};
@@ -190,6 +191,13 @@ impl Cluster {
     pub fn step(&mut self, alloc: Global, next: &ClusterStep) -> Result<Output, ClusterFault>
         ensures done { (steps : List ProtocolStep) → IsRun self.old steps →
             IfOk result (λ out. IsRun self.new (steps ++ step_of next.now ∷ [])) }
+        ensures told { (steps : List ProtocolStep) → IsRun self.old steps → let x = step_of next.now in
+            IfOk result (IsPutOut (net_after self.old steps) (net_after self.new (steps ++ x ∷ [])) x) }
+        ensures numbers { (k : NodeLinks) → let p = stepper (step_of next.now) in
+            IfOk result (HasNextNumbers (slice_index_or self.old.nodes p k)
+            (slice_index_or self.new.nodes p k)) }
+
+        // So its acts are those that the laws of nets speak of, and its rows are told with its clock.
         ensures acts { (steps : List ProtocolStep) → IsRun self.old steps →
             IfOk result (λ out. acts_shown out.effects.acts
             ≡ clocked_acts (net_after self.old steps) (step_of next.now)) }
@@ -199,6 +207,9 @@ impl Cluster {
             let w = net_after self.old steps in
             (result ≡ Err fault.Unknown → ⊥) →
             IsRefusedIn (w.nodes (stepper (step_of next.now))) (coming_to w (step_of next.now)) result }
+        ensures spent { (steps : List ProtocolStep) → IsRun self.old steps →
+            (result ≡ Err fault.Unknown → ⊥) →
+            IsSpentAs (IsSpentIn (net_after self.old steps) (step_of next.now)) result }
         ensures unknown { IsErrOf result fault.Unknown
             ↔ (length self.old.nodes ≤ stepper (step_of next.now)) }
         ensures nodes { length self.new.nodes ≡ length self.old.nodes }

@@ -18,7 +18,7 @@ ghost use Rattle.kt_system.specs.Shown.{begin_verb};
 ghost use Rattle.kt_node.specs.Managers.{HoldsFor, HasAnswered, ShowsNode, HasBack, IsSameManager, IsTurned, process_of, after_closing};
 ghost use Rattle.kt_node.specs.Turns.{BeginsIn, HearsIn, CanGoOn, CanFollow, named_cause, unwilling_row, joined_row, joined_in, gone_on};
 ghost use Rattle.kt_node.specs.Effects.{IsDone, rows_told};
-ghost use Rattle.kt_node.specs.Faults.{fault_at, IsRefusedAs};
+ghost use Rattle.kt_node.specs.Faults.{fault_at, wants_room, IsRefusedAs};
 
 use super::messages::refusal;
 use super::{Manager, here, is_one};
@@ -288,6 +288,8 @@ impl Manager {
         ensures done { (y : NodeState) (able : Bool) → ShowsNode self.old y →
             IfOk result (λ e. IsDone self.new e (taking y from able (put.Reply inst.now willing))) }
         ensures err { OnErr result (IsSameManager self.new self.old) }
+        ensures memory { (y : NodeState) → ShowsNode self.old y →
+            OnErr result (wants_room y from (put.Reply inst.now willing) ≡ true) }
     {
         if !self.awaits(from, inst) {
             return Ok(Effects::none());
@@ -358,6 +360,8 @@ impl Manager {
         ensures done { (y : NodeState) (able : Bool) → ShowsNode self.old y →
             IfOk result (λ e. IsDone self.new e (taking y from able (put.Decide inst.now commit))) }
         ensures err { OnErr result (IsSameManager self.new self.old) }
+        ensures memory { (y : NodeState) → ShowsNode self.old y →
+            OnErr result (wants_room y from (put.Decide inst.now commit) ≡ true) }
     {
         if !self.heeds(from, inst) {
             return Ok(Effects::none());
