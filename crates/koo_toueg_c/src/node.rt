@@ -1,13 +1,14 @@
 //! One process's manager as bytes: what has to be durable of it, and what leads from one state to the next one.
 
 ghost use Rattle.std.specs.Prelude.{◌≡◌, ◌≢◌, ◌≤◌, ◌<◌, ◌+◌, ◌↔◌, ℕ, List, take, length, Some, None, IfOk, IfErr};
+ghost use Rattle.kt_node.specs.Links.{NodeLinks};
 ghost use Rattle.kt_node.specs.declared.inputs.Input.{Input as Inputs};
 ghost use Rattle.kt_node.specs.declared.node.Output.{Output as Outputs};
 ghost use Rattle.koo_toueg_c.specs.declared.node.refusal.Refusal.{Refusal as Refusals};
 ghost use Rattle.koo_toueg_c.specs.declared.node.refusal.Refusal.TheVariants as refusal;
 ghost use Rattle.koo_toueg_c.specs.Buffers.{IsLeft, IsPut};
 ghost use Rattle.koo_toueg_c.specs.NodeNumbers.{input_meant, look_status, no_output, output_of_refusal, output_too_long, part_row_meant, refusal_status};
-ghost use Rattle.koo_toueg_c.specs.Nodes.{IsAgainOf, IsLookOf, IsNoNewNode, IsNoStep, IsRowText, IsStepOf, SaysNewNode, TellsOutput, TellsStep};
+ghost use Rattle.koo_toueg_c.specs.Nodes.{IsAgainOf, IsLookOf, IsNoNewNode, IsNoStep, IsRowText, IsStepOf, SaysNewNode, SaysNode, TellsOutput, TellsStep};
 
 use crate::buffers::put;
 use kt_base::Label;
@@ -129,12 +130,14 @@ pub extern "C" fn kt_node_look(alloc: Global, state: &[u8], input: &KtInput) -> 
     ensures look { result ≢ 4 → (x : Inputs) → input_meant input.now ≡ Some x →
         IsLookOf state.now x result }
     ensures none { result ≤ 1 → input_meant input.now ≡ None → ⊥ }
+    ensures node { result ≤ 1 → (node : NodeLinks) × SaysNode state.now node }
     ensures status { result ≤ 4 }
     ensures other { result ≢ 3 }
 {
     match look(alloc, state, input) {
         Ok(Look::NeedsSave) => 0,
-        Ok(Look::Plain | Look::NeedsBody) => 1,
+        Ok(Look::Plain) => 1,
+        Ok(Look::NeedsBody) => 1,
         Ok(Look::Idle) => REFUSED,
         Err(why) => why.status(),
     }
@@ -226,6 +229,7 @@ fn look(alloc: Global, state: &[u8], numbers: &KtInput) -> Result<Look, Refusal>
     ensures look { (x : Inputs) → input_meant numbers.now ≡ Some x →
         IfOk result (λ look. IsLookOf state.now x (look_status look)) }
     ensures meant { IfOk result (λ _. input_meant numbers.now ≡ None → ⊥) }
+    ensures node { IfOk result (λ _. (node : NodeLinks) × SaysNode state.now node) }
     ensures refused { IfErr result (λ why. refusal_status why ≡ 2 →
         (x : Inputs) → input_meant numbers.now ≡ Some x → IsLookOf state.now x 2) }
 {

@@ -19,10 +19,10 @@ use Rattle.kt_node.specs.Nodes as input
 use Rattle.kt_node.specs.NodeMessages.{arriving}
 use Rattle.kt_node.specs.NodeJoining.{next_name, beginning, joining_checkpoint, joining_rollback}
 use Rattle.kt_node.specs.NodeClosing.{ending, settling}
-use Rattle.kt_node.specs.NodeSteps.{is_in, starting, told_to_begin, asked_outside, asked, awaits, heeds, counting, taking, is_step, node_after}
+use Rattle.kt_node.specs.NodeSteps.{starting, told_to_begin, asked_outside, asked, awaits, heeds, counting, taking, is_step, node_after}
 use Rattle.kt_node.specs.Nets.{Net}
 use Rattle.kt_node.proofs.Done.{IsDone}
-use Rattle.kt_node.proofs.Takings.{heed_test, await_test, ready_test}
+use Rattle.kt_node.proofs.Takings.{MayHeed, heed_test, await_test, ready_test}
 
 -- either way
 pub acts_if : (b c : Bool) (d e : Doing) (x z : List Act) → b ≡ c → d.acts ≡ x → e.acts ≡ z → (if b then d else e).acts ≡ (if c then x else z)
@@ -128,5 +128,5 @@ module _ (name : ℕ → InstName) (first : ℕ) (w : Net) (p : ℕ) (count : �
       swap true true d e x r f g = absurd (cc)
       swap false false d e x r f g = absurd (cc)
 
-  pub acts_decision : (q : ℕ) (able : Bool) (k : ℕ) (c : Bool) → 1 ≤ k → k ≤ v.begun → is_in (y.asks q) (name k) ≡ true → (taking y q able (put.Decide (name k) c)).acts ≡ seen_acts_decided v p k c
+  pub acts_decision : (q : ℕ) (able : Bool) (k : ℕ) (c : Bool) → 1 ≤ k → k ≤ v.begun → MayHeed name p y v q k → (taking y q able (put.Decide (name k) c)).acts ≡ seen_acts_decided v p k c
   acts_decision q able k c low high a = acts_if (heeds y q (name k)) ((v.states p).inst == k) _ _ _ _ (heed_test name first w p count y v h within q k low high a) (ap (λ (x : NodeState). acts_of_closing x.part.is_rollback c) h.state) refl

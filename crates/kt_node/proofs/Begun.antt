@@ -1,16 +1,12 @@
 -- In a net nothing that comes is forged: who is asked is asked to join an instance whose initiator is there, and in it; a reply
 -- is of who was asked and has not replied; a decision is of who asked.
-use Rattle.std.proofs.Common.{◌≡◌, ◌∙◌, ℕ, zero, suc, ◌<◌, ◌≤◌, length, Bool, true, false, not, Option, Some, None, option_map, List, [], ◌∷◌, ◌++◌, map, refl, sym, ap, subst, arith, inl, inr}
-use Rattle.std.specs.Prelude.{◌==◌, ◌&&◌, ◌||◌, nat_lt, if◌then◌else◌, slice_get, fold}
+use Rattle.std.proofs.Common.{◌≡◌, ◌∙◌, ℕ, ◌<◌, ◌≤◌, length, Bool, true, false, not, Some, None, List, [], ◌∷◌, ◌++◌, refl, sym, ap, subst, arith, inl, inr}
+use Rattle.std.specs.Prelude.{◌==◌, ◌&&◌, ◌||◌, nat_lt, if◌then◌else◌}
 use Rattle.std.proofs.lemmas.Bool.Decides.{nat_tests}
-use Rattle.std.proofs.lemmas.List.{append-nil, append_assoc, map-append}
+use Rattle.std.proofs.lemmas.List.{append-nil, append_assoc}
 use Rattle.kt_base.specs.declared.words.Kind.{Kind}
-use Rattle.kt_spacetime.specs.declared.event.Event.{Event}
-use Rattle.kt_spacetime.specs.declared.event.Event.TheVariants.{Sent, Received, Dropped, Began, Took, Ready, Unwilling, Decided, Closed, Failed, Refused}
 use Rattle.kt_spacetime.specs.declared.names.InstName.{InstName}
-use Rattle.kt_meaning.specs.Names.{Given, nothing_given, initiators_after, given_after, given_by, at_place, place_of, name_of, name_begun_by, instance_name}
-use Rattle.kt_meaning.specs.Past.{Past, Beginning, start, begun_after, after, past, initiator_of}
-use Rattle.kt_meaning.proofs.PlaceFacts.{map_some, then_some}
+use Rattle.kt_meaning.specs.Names.{nothing_given, given_by}
 use Rattle.kt_protocol.proofs.Choices.{same}
 use Rattle.kt_protocol.proofs.Invariant.{Invariant}
 use Rattle.kt_protocol.proofs.LateWholeSteps.{once_closed_run}
@@ -30,13 +26,14 @@ use Rattle.kt_node.specs.declared.parcels.NodeParcel.{NodeParcel}
 use Rattle.kt_node.specs.declared.parcels.NodeParcel.TheVariants.{Ask}
 use Rattle.kt_node.specs.declared.parcels.NodeParcel.TheVariants as put
 use Rattle.kt_node.specs.Nodes.{NodeState}
-use Rattle.kt_node.specs.NodeSteps.{is_one, is_in, is_begun}
+use Rattle.kt_node.specs.NodeSteps.{is_one, is_in, is_begun, heeds}
 use Rattle.kt_node.specs.Nets.{net_run, opening_net}
 use Rattle.kt_node.specs.Erasing.{name_in, erased_inst, erased_parcels}
 use Rattle.kt_node.proofs.Naming.{naming_of_log}
+use Rattle.kt_node.proofs.Initiators.{named_by}
 use Rattle.kt_node.proofs.Awaiting.{Awaits, Met, since_step}
 use Rattle.kt_node.proofs.Owing.{Follows}
-use Rattle.kt_node.proofs.Steps.{reply_due}
+use Rattle.kt_node.proofs.Steps.{reply_due, heeds_each}
 use Rattle.kt_node.proofs.Runs.{late_push, shown, due_run, nodes_shown, channels_shown}
 
 -- who awaits another process is one that there is
@@ -75,48 +72,6 @@ near_along n xs (y ∷ ys) h = subst (λ (l : List ProtocolStep). AreNear (late_
 
 near_run : (n : ℕ) (steps : List ProtocolStep) → AreNear (late_run (opening n) steps)
 near_run n steps = near_along n [] steps (λ p q a. absurd (let b = a.0 in omega (arith, b)))
-
--- who began an instance, by the rows and by the names
-abbrev who : Beginning → ℕ
-who b = b.initiator
-
-same_begun : (g : Given) (s : Past) (log : List Event) → g.initiators ≡ map who s.begun → (given_by g log).initiators ≡ map who (fold after s log).begun
-same_begun g s [] e = e
-same_begun g s (row ∷ log) e = same_begun (given_after g row) (after s row) log (one row)
-  where
-    one : (row : Event) → initiators_after g row ≡ map who (begun_after s row)
-    one (Sent p to body) = e
-    one (Received p from msg) = e
-    one (Dropped p from msg) = e
-    one (Began p inst kind) = ap (λ (l : List ℕ). l ++ p ∷ []) e ∙ sym (map-append who s.begun (record { initiator = p; kind = kind } ∷ []))
-    one (Took p inst) = e
-    one (Ready p inst) = e
-    one (Unwilling p inst c) = e
-    one (Decided p inst commit) = e
-    one (Closed p inst) = e
-    one (Failed p) = e
-    one (Refused p verb c) = e
-
-get_map : (bs : List Beginning) (k : ℕ) → slice_get (map who bs) k ≡ option_map who (slice_get bs k)
-get_map [] k = refl
-get_map (b ∷ bs) zero = refl
-get_map (b ∷ bs) (suc k) = get_map bs k
-
-at_begun : (s : Past) (k : ℕ) → at_place (map who s.begun) k ≡ initiator_of s k
-at_begun s zero = refl
-at_begun s (suc k) = get_map s.begun k
-
-one_some : (a b : ℕ) (o : Option ℕ) → o ≡ Some a → o ≡ Some b → a ≡ b
-one_some a b o e f = cc
-
--- an instance is named by who began it
-named_by : (log : List Event) (name : ℕ → InstName) (k p : ℕ) → instance_name (given_by nothing_given log) k ≡ Some (name k) → initiator_of (past log) k ≡ Some p → (name k).initiator ≡ p
-named_by log name k p e f =
-    let g = given_by nothing_given log in
-    let first = then_some (name_begun_by g k) (at_place g.initiators k) (name k) e in
-    let second = map_some (name_of first.0) (place_of k (g.begun first.0)) (name k) first.2 in
-    let there : at_place g.initiators k ≡ Some p = ap (λ (l : List ℕ). at_place l k) (same_begun nothing_given start log refl) ∙ (at_begun (past log) k ∙ f) in
-    ap (λ (i : InstName). i.initiator) (sym second.2) ∙ one_some first.0 p (at_place g.initiators k) first.1 there
 
 module _ (n first : ℕ) (steps : List ProtocolStep) (p q : ℕ) where
   abbrev c : State
@@ -201,6 +156,22 @@ module _ (n first : ℕ) (steps : List ProtocolStep) (p q : ℕ) where
 
   pub reply_owed : (k : InstName) (b : Bool) (rest : List NodeParcel) → (net_run (opening_net n first) steps).channel q p ≡ put.Reply k b ∷ rest → (y.part.asked q ≡ true) × (y.answered q ≡ false)
   reply_owed k b rest e = reply_front k b rest (c.channel q p) refl (sym (channels_shown n first steps q p) ∙ e)
+
+  -- a decision in front
+  decision_front : (k : InstName) (b : Bool) (rest : List NodeParcel) (xs : List Parcel) → c.channel q p ≡ xs → erased_parcels name (seen_parcels t.label t.body c.so_far.is_rollback xs) ≡ put.Decide k b ∷ rest → heeds y q k ≡ is_in y.inst k
+  unfolding seen_parcels
+  decision_front k b rest [] e f = absurd (cc (f))
+  decision_front k b rest (App m ∷ xs) e f = absurd (cc (f))
+  decision_front k b rest (parcel.Ask j l ∷ xs) e f = absurd (cc (f))
+  decision_front k b rest (Reply j w ∷ xs) e f = absurd (cc (f))
+  decision_front k b rest (Decide j w ∷ xs) e f =
+      let s = shown n first steps in
+      let is : name j ≡ k = cc (f) in
+      subst (λ (k : InstName). heeds y q k ≡ is_in y.inst k) is (heeds_each n first steps name s.0 (net_run (opening_net n first) steps) s.1 (due_run n first steps) p q j w xs e)
+
+  -- who is in its instance heeds it
+  pub decision_heeded : (k : InstName) (b : Bool) (rest : List NodeParcel) → (net_run (opening_net n first) steps).channel q p ≡ put.Decide k b ∷ rest → heeds y q k ≡ is_in y.inst k
+  decision_heeded k b rest e = decision_front k b rest (c.channel q p) refl (sym (channels_shown n first steps q p) ∙ e)
 
   pub decision_asked : (k : InstName) (b : Bool) (rest : List NodeParcel) → (net_run (opening_net n first) steps).channel q p ≡ put.Decide k b ∷ rest → is_in (y.asks q) k ≡ true
   decision_asked k b rest e = let d = due_run n first steps in (subst (Follows (y.asks q)) e (d.told q p).0).0

@@ -1,9 +1,7 @@
 -- The acts of a net with clocks are those of the net.
-use Rattle.std.proofs.Common.{◌≡◌, ◌∙◌, ℕ, Bool, true, false, not, Option, Some, None, List, [], ◌∷◌, map, refl, ap}
+use Rattle.std.proofs.Common.{◌≡◌, ◌∙◌, ℕ, Bool, true, false, not, Some, None, List, [], ◌∷◌, map, refl, ap}
 use Rattle.std.specs.Prelude.{◌&&◌, if◌then◌else◌}
 use Rattle.kt_protocol.specs.States.{ProtocolStep, Send, Begin, Fail, Take}
-use Rattle.kt_machine.specs.Values.{Act}
-use Rattle.kt_node.specs.declared.parcels.NodeParcel.{NodeParcel}
 use Rattle.kt_node.specs.Nodes.{NodeState, Input, Doing, nothing, is_in_rollback}
 use Rattle.kt_node.specs.Nodes as input
 use Rattle.kt_node.specs.NodeSteps.{is_step, node_after}

@@ -30,7 +30,7 @@ use Rattle.kt_node.specs.declared.cluster.ClusterFault.TheVariants as fault
 use Rattle.kt_node.specs.declared.cluster.OnWay.{OnWay}
 use Rattle.kt_node.specs.declared.node.Output.{Output}
 use Rattle.kt_node.specs.declared.reach.Reaches.{Reaches}
-use Rattle.kt_node.specs.Clusters.{ClusterState, link, ShowsClocked, ShowsNet, net_after, IsRun, ArePromised, AreFresh, coming, coming_to, IsRefusedIn, doing_at, IsPutOut, HasNextNumbers, IsSpeakable, IsTurn}
+use Rattle.kt_node.specs.Clusters.{ClusterState, link, ShowsClocked, ShowsNet, net_after, IsRun, ArePromised, AreFresh, coming, coming_to, IsRefusedIn, IsSpent, IsSpentIn, IsSpentAs, doing_at, IsPutOut, HasNextNumbers, IsSpeakable, IsTurn}
 use Rattle.kt_node.specs.Effects.{put_to, rows_told}
 use Rattle.kt_node.specs.Links.{NodeLinks, IsSameNode}
 use Rattle.kt_node.specs.Managers.{ShowsNode}
@@ -247,6 +247,18 @@ module _ (c : ClusterState) (x : ProtocolStep) (nodes : List NodeLinks) (after w
       → ((y : NodeState) (k : NodeLinks) → ShowsNode (slice_index_or c.nodes (stepper x) k).manager y → IsRefusedIn y (coming y x (link c.on_way (source_of x) (stepper x))) r)
       → (steps : List ProtocolStep) → IsRun c steps → IsRefusedIn ((net_after c steps).nodes (stepper x)) (coming_to (net_after c steps) x) r
   refusal r refused steps s = refused_there c (net_after c steps) x r s few (refused ((net_after c steps).nodes (stepper x)) stepping.0 (s.nodes (stepper x) stepping.0 b).node.manager)
+
+  -- whether it is refused for its clock
+  pub spending : {X : Type 0} (r : Result X ClusterFault)
+      → ((y : NodeState) (k : NodeLinks) → ShowsNode (slice_index_or c.nodes (stepper x) k).manager y
+      → IsSpentAs (IsSpent (slice_index_or c.nodes (stepper x) k).clock (coming y x (link c.on_way (source_of x) (stepper x))) (link c.on_way (source_of x) (stepper x))) r)
+      → (steps : List ProtocolStep) → IsRun c steps → IsSpentAs (IsSpentIn (net_after c steps) x) r
+  spending r spent steps s =
+      let w = net_after c steps in
+      let y = w.nodes (stepper x) in
+      let n = s.nodes (stepper x) stepping.0 b in
+      subst (λ (clock : ℕ). IsSpentAs (IsSpent clock (coming_to w x) (w.channel (source_of x) (stepper x))) r) n.ticks
+      (subst (λ (es : List Envelope). IsSpentAs (IsSpent (slice_index_or c.nodes (stepper x) stepping.0).clock (coming y x es) es) r) (s.links (source_of x) (stepper x) few) (spent y stepping.0 n.node.manager))
 
 pub same_err : {X : Type 0} (r : Result X ClusterFault) (f : ClusterFault) → IsErr r × IsErrAnd r (λ (g : ClusterFault). g ≡ f) → r ≡ Err f
 same_err (Ok x) f h = absurd (cc h.0)

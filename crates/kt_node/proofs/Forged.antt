@@ -1,5 +1,5 @@
 -- Forged replies, decisions and asks change nothing.
-use Rattle.std.proofs.Common.{◌≡◌, ◌≢◌, ◌∙◌, ℕ, ◌≤◌, ◌⊎◌, Bool, true, false, Option, Some, None, refl, ap, arith, inl, inr}
+use Rattle.std.proofs.Common.{◌≡◌, ◌≢◌, ◌∙◌, ℕ, ◌<◌, ◌≤◌, ◌⊎◌, Bool, true, false, Option, Some, None, refl, ap, arith, inl, inr}
 use Rattle.std.specs.Prelude.{◌==◌, ◌&&◌, ◌||◌, not, nat_lt, if◌then◌else◌}
 use Rattle.std.proofs.lemmas.Bool.Decides.{nat_tests}
 use Rattle.kt_base.specs.declared.words.Kind.{Kind}
@@ -66,11 +66,33 @@ twice y q able w again v k = not_awaited (node_after y (Comes q able (Reply k w)
     at_test false e = e
 
 pub not_asker : (y : NodeState) (q : ℕ) (able c : Bool) (k : InstName) → is_in (y.asks q) k ≡ false → node_after y (Comes q able (Decide k c)) ≡ nothing y
-not_asker y q able c k e = none_at (heeds y q k) (closing k c (nothing y)) (nothing y) (ap (λ (b : Bool). is_in y.inst k && b) e ∙ never (is_in y.inst k))
+not_asker y q able c k e = none_at (heeds y q k) (closing k c (nothing y)) (nothing y) (ap (λ (b : Bool). (is_in y.inst k && b) && (not (k.initiator == y.me) && y.part.awaited == 0)) e ∙ never (is_in y.inst k) _)
   where
-    never : (b : Bool) → (b && false) ≡ false
-    never true = refl
-    never false = refl
+    never : (b d : Bool) → ((b && false) && d) ≡ false
+    never true d = refl
+    never false d = refl
+
+pub own_decision : (y : NodeState) (q : ℕ) (able c : Bool) (k : InstName) → k.initiator ≡ y.me → node_after y (Comes q able (Decide k c)) ≡ nothing y
+own_decision y q able c k e = none_at (heeds y q k) (closing k c (nothing y)) (nothing y) (never (is_in y.inst k && is_in (y.asks q) k) (k.initiator == y.me) (y.part.awaited == 0) mine)
+  where
+    mine : (k.initiator == y.me) ≡ true
+    mine = grind (arith, nat_tests, e)
+
+    never : (a b c : Bool) → b ≡ true → (a && (not b && c)) ≡ false
+    never true true c e = refl
+    never false b c e = refl
+    never true false c e = absurd (cc (e))
+
+pub early_decision : (y : NodeState) (q : ℕ) (able c : Bool) (k : InstName) → 0 < y.part.awaited → node_after y (Comes q able (Decide k c)) ≡ nothing y
+early_decision y q able c k l = none_at (heeds y q k) (closing k c (nothing y)) (nothing y) (never (is_in y.inst k && is_in (y.asks q) k) (not (k.initiator == y.me)) (y.part.awaited == 0) some)
+  where
+    some : (y.part.awaited == 0) ≡ false
+    some = grind (arith, nat_tests, l)
+
+    never : (a b c : Bool) → c ≡ false → (a && (b && c)) ≡ false
+    never true true c e = e
+    never true false c e = refl
+    never false b c e = refl
 
 -- an ask of an instance that has not begun
 refused : (y : NodeState) (q : ℕ) (able : Bool) (k : InstName) (kind : Kind) (label : ℕ) → is_begun y k ≡ false → fault_at y (Comes q able (Ask k kind label)) ≢ None

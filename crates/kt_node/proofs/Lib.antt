@@ -1,4 +1,5 @@
 pub mod Naming
+pub mod Initiators
 pub mod SentPlaces
 pub mod Told
 pub mod Done
@@ -53,6 +54,8 @@ mod NetMerges
 pub mod OnWay
 pub mod Clustering
 pub mod Turning
+pub mod Spending
+pub mod Wanting
 pub mod OwnMarks
 pub mod CallHistories
 pub mod NetHistories

@@ -1,15 +1,14 @@
 -- In a net with numbers no clock and no label is further ahead than there were steps.
-use Rattle.std.proofs.Common.{◌≡◌, ◌∙◌, ◌≤◌, ◌+◌, ℕ, ℤ, max, Bool, true, false, not, Option, Some, None, List, [], ◌∷◌, ◌++◌, length, map, refl, sym, ap, subst, arith}
+use Rattle.std.proofs.Common.{◌≡◌, ◌∙◌, ◌≤◌, ◌+◌, ℕ, max, Bool, true, false, Option, Some, None, List, [], ◌∷◌, ◌++◌, length, map, refl, sym, ap, subst, arith}
 use Rattle.std.specs.Prelude.{◌==◌, ◌&&◌, ◌||◌, nat_lt, if◌then◌else◌, Err, take, drop, zero, suc}
 use Rattle.std.proofs.lemmas.Bool.Decides.{nat_tests}
-use Rattle.kt_meaning.specs.Past.{at_one}
 use Rattle.kt_protocol.proofs.Updates.{at_one_all}
 use Rattle.kt_machine.specs.Acts.{stepper}
 use Rattle.kt_node.specs.declared.node.Envelope.{Envelope as NodeEnvelope}
 use Rattle.kt_node.specs.declared.node.NodeFault.TheVariants as fault
 use Rattle.kt_node.specs.declared.parcels.NodeParcel.{NodeParcel}
 use Rattle.kt_node.specs.declared.parcels.NodeParcel.TheVariants.{App, Ask, Reply, Decide}
-use Rattle.kt_node.specs.Nodes.{NodeState, Input, Send, Begin, Fail, Held, Comes}
+use Rattle.kt_node.specs.Nodes.{Input, Send, Begin, Fail, Held, Comes}
 use Rattle.kt_node.specs.NodeSteps.{node_after}
 use Rattle.kt_node.specs.Clocks.{Envelope, envelope, source_of, front_input, input_at, clock_after}
 use Rattle.kt_node.specs.Links.{NodeLinks}

@@ -152,7 +152,7 @@ module _ (before : List Call) where
     parcels q able (Ask k kind label) = asks (asking y q k) h y.inst q able k (is_rollback_kind (Some kind)) label
     parcels q able (Reply k w) = where_so (awaits y q k) (settling k (nothing (counting y q w))) (nothing y)
         (λ e. settles k (nothing (counting y q w)) (inside_of y.inst k (first_one (is_in y.inst k) _ (first_one _ _ e))) h) h
-    parcels q able (Decide k c) = where_so (heeds y q k) (closing k c (nothing y)) (nothing y) (λ e. closes y c (inside_of y.inst k (first_one (is_in y.inst k) _ e)) h) h
+    parcels q able (Decide k c) = where_so (heeds y q k) (closing k c (nothing y)) (nothing y) (λ e. closes y c (inside_of y.inst k (first_one (is_in y.inst k) _ (first_one _ _ e))) h) h
 
     held : (q : ℕ) (l : List NodeParcel) → Stays before (taking_held y q l).state
     held q [] = h

@@ -1,5 +1,5 @@
 -- A net with numbers is a net with clocks.
-use Rattle.std.proofs.Common.{◌≡◌, ◌≢◌, ◌∙◌, ◌⊎◌, ◌<◌, ◌≤◌, ◌+◌, ◌-◌, ℕ, zero, suc, Bool, true, false, not, Option, Some, None, List, [], ◌∷◌, ◌++◌, length, length-append, drop-drop, map, refl, sym, ap, ap₂, subst, arith, inl, inr}
+use Rattle.std.proofs.Common.{◌≡◌, ◌≢◌, ◌∙◌, ◌⊎◌, ◌≤◌, ◌+◌, ◌-◌, ℕ, zero, suc, Bool, true, false, not, Option, Some, None, List, [], ◌∷◌, ◌++◌, length, length-append, drop-drop, map, refl, sym, ap, ap₂, subst, arith, inl, inr}
 use Rattle.std.specs.Prelude.{◌==◌, ◌&&◌, if◌then◌else◌, take, drop}
 use Rattle.std.proofs.lemmas.Bool.Decides.{nat_tests}
 use Rattle.std.proofs.lemmas.List.{append-nil}
@@ -10,8 +10,8 @@ use Rattle.kt_node.specs.Nodes.{NodeState, Input, is_in_rollback}
 use Rattle.kt_node.specs.Nodes as input
 use Rattle.kt_node.specs.NodeSteps.{is_step, node_after}
 use Rattle.kt_node.specs.Nets.{has_some}
-use Rattle.kt_node.specs.Clocks.{Envelope, ClockedNet, envelope, clocked_row, source_of, front_input, input_at, clock_after, left_after, clocked_doing, at_input, clocked_step, clocked_run, opening_clocked}
-use Rattle.kt_node.specs.Numbered.{NumberedNet, NumberedStep, Own, Comes, with_number, numbered_doing, numbered_input, numbered_comes, takes_number, numbered_step, numbered_run, opening_numbered, unnumbered}
+use Rattle.kt_node.specs.Clocks.{Envelope, ClockedNet, envelope, clocked_row, source_of, front_input, input_at, clock_after, left_after, clocked_doing, at_input, clocked_step, clocked_run}
+use Rattle.kt_node.specs.Numbered.{NumberedNet, NumberedStep, Own, Comes, with_number, numbered_doing, numbered_input, numbered_comes, takes_number, numbered_step, numbered_run, unnumbered}
 
 -- items left out of a longer list, and one more of them
 drop_front : {A : Type 0} (k : ℕ) (xs ys : List A) → k ≤ length xs → drop k (xs ++ ys) ≡ drop k xs ++ ys

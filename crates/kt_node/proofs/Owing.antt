@@ -239,4 +239,4 @@ owes o p q y (Comes u able (Reply k w)) l = at_test (awaits y u k) refl
     at_test : (b : Bool) → awaits y u k ≡ b → Owes o p q (if b then counting y u w else y) (if b then settling k (nothing (counting y u w)) else nothing y)
     at_test true e = settles o p q (counting y u w) k (nothing (counting y u w)) (first_one (is_in y.inst k) _ (first_one _ _ e)) (no o p q (counting y u w) l)
     at_test false e = no o p q y l
-owes o p q y (Comes u able (Decide k c)) l = where_so o p q y (heeds y u k) _ _ (λ e. closes o p q y k c (nothing y) (first_one (is_in y.inst k) _ e) (no o p q y l)) (no o p q y l)
+owes o p q y (Comes u able (Decide k c)) l = where_so o p q y (heeds y u k) _ _ (λ e. closes o p q y k c (nothing y) (first_one (is_in y.inst k) _ (first_one _ _ e)) (no o p q y l)) (no o p q y l)

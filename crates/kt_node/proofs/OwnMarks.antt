@@ -1,24 +1,21 @@
 -- A node keeps what its part marks, and its part is the one that it shows.
-use Rattle.std.specs.Prelude.{◌==◌, ◌&&◌, if◌then◌else◌, nat_lt, is_none}
-use Rattle.std.proofs.Common.{◌≡◌, ◌∙◌, ◌+◌, ◌<◌, ◌≤◌, ℕ, ℤ, Bool, true, false, not, Option, Some, None, List, [], ◌∷◌, ◌++◌, length, refl, sym, ap, subst, arith, length-append}
+use Rattle.std.specs.Prelude.{◌==◌, ◌&&◌, if◌then◌else◌}
+use Rattle.std.proofs.Common.{◌≡◌, ◌∙◌, ◌≤◌, ℕ, ℤ, Bool, true, false, not, Option, Some, None, List, [], ◌∷◌, ◌++◌, length, refl, sym, ap, subst, arith, length-append}
 use Rattle.std.proofs.lemmas.List.{length-map}
-use Rattle.kt_base.specs.declared.words.Verb.TheVariants as verb
 use Rattle.kt_fifo.specs.Channels.{channel}
 use Rattle.kt_meaning.specs.Past.{at_one, is_rollback_kind}
 use Rattle.kt_machine.specs.CallTests.{must_take, must_roll}
 use Rattle.kt_machine.specs.Seen.{SeenPart}
 use Rattle.kt_machine.specs.SeenJoining.{no_note, part_after_ask}
-use Rattle.kt_machine.specs.SeenReplies.{part_after_reply}
 use Rattle.kt_process.specs.Shown.{part_shown}
 use Rattle.kt_spacetime.specs.declared.names.InstName.{InstName}
-use Rattle.kt_spacetime.specs.declared.named_rows.NamedCause.TheVariants.{Down, Busy}
 use Rattle.kt_node.specs.declared.parcels.NodeParcel.{NodeParcel}
 use Rattle.kt_node.specs.declared.parcels.NodeParcel.TheVariants.{App, Ask, Reply, Decide}
-use Rattle.kt_node.specs.Nodes.{NodeLists, NodeState, Input, Send, Begin, Fail, Held, Comes, Doing, nothing, with_one, is_in_rollback}
-use Rattle.kt_node.specs.NodeMessages.{sending, receiving, arriving, holding, taking_held, failing, refusing, unable}
-use Rattle.kt_node.specs.NodeJoining.{next_name, beginning, joining_checkpoint, joining_rollback, replying, unwilling, noting, asking}
-use Rattle.kt_node.specs.NodeClosing.{after_checkpoint, after_rollback, closing, ending, settling}
-use Rattle.kt_node.specs.NodeSteps.{is_one, is_in, starting, told_to_begin, asked_inside, asked_outside, asked, counting, taking, is_step, node_after}
+use Rattle.kt_node.specs.Nodes.{NodeLists, NodeState, Input, Send, Begin, Fail, Held, Comes, Doing, nothing, is_in_rollback}
+use Rattle.kt_node.specs.NodeMessages.{arriving, taking_held}
+use Rattle.kt_node.specs.NodeJoining.{next_name, beginning, joining_checkpoint, joining_rollback, asking}
+use Rattle.kt_node.specs.NodeClosing.{after_checkpoint, after_rollback, ending, settling}
+use Rattle.kt_node.specs.NodeSteps.{is_one, told_to_begin, asked, counting, taking, is_step, node_after}
 use Rattle.kt_node.specs.Nets.{opening_net}
 use Rattle.kt_node.specs.Managers.{ManagerState, ShowsNode, no_name, number_in}
 use Rattle.kt_node.specs.Erasing.{erased_parcel}

@@ -1,12 +1,9 @@
 -- A net does the same where each process's labels count on from one of its own.
-use Rattle.std.proofs.Common.{◌≡◌, ◌∙◌, ◌+◌, ◌-◌, ◌<◌, ℕ, ℤ, zero, suc, Bool, true, false, not, List, [], ◌∷◌, ◌++◌, map, refl, sym, ap, ap₂, arith}
+use Rattle.std.proofs.Common.{◌≡◌, ◌∙◌, ◌+◌, ◌-◌, ℕ, zero, suc, Bool, true, false, not, List, [], ◌∷◌, ◌++◌, map, refl, sym, ap, ap₂, arith}
 use Rattle.std.specs.Prelude.{◌==◌, ◌&&◌, if◌then◌else◌}
-use Rattle.std.proofs.Math.Path.{fun_ext}
 use Rattle.std.proofs.lemmas.Bool.Decides.{nat_tests}
 use Rattle.std.proofs.lemmas.List.{map-append}
-use Rattle.kt_meaning.specs.Past.{at_one}
 use Rattle.kt_protocol.specs.States.{ProtocolStep, Send, Begin, Fail, Take}
-use Rattle.kt_machine.specs.Values.{Act}
 use Rattle.kt_spacetime.specs.declared.named_rows.NamedEvent.{NamedEvent}
 use Rattle.kt_spacetime.specs.declared.named_rows.NamedEvent.TheVariants.{Sent, Received, Dropped, Began, Took, Ready, Unwilling, Decided, Closed, Failed, Refused}
 use Rattle.kt_spacetime.specs.declared.named_rows.NamedRow.{NamedRow}

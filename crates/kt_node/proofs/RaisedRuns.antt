@@ -1,5 +1,5 @@
 -- What holds of nets whose nodes count on from 0 holds wherever each of them counts on from.
-use Rattle.std.proofs.Common.{◌≡◌, ◌∙◌, ◌<◌, ◌+◌, ℕ, zero, suc, Bool, true, false, Some, List, [], ◌∷◌, ◌++◌, map, refl, sym, ap, ap₂, subst, arith}
+use Rattle.std.proofs.Common.{◌≡◌, ◌∙◌, ◌<◌, ℕ, zero, suc, Bool, true, false, Some, List, [], ◌∷◌, ◌++◌, map, refl, sym, ap, ap₂, subst, arith}
 use Rattle.kt_base.specs.declared.words.Kind.{Kind}
 use Rattle.kt_tables.specs.Calls.{Call, sent, received, on_tentative, on_commit, on_abort, on_rollback, PartsOfCalls, parts, sents, receiveds, Speaks}
 use Rattle.kt_tables.specs.Labels.{LabelsRise}
@@ -9,14 +9,14 @@ use Rattle.kt_spacetime.specs.declared.names.InstName.{InstName}
 use Rattle.kt_meaning.specs.Names.{numbered}
 use Rattle.kt_node.specs.declared.parcels.NodeParcel.{NodeParcel}
 use Rattle.kt_node.specs.declared.parcels.NodeParcel.TheVariants.{App, Ask, Reply, Decide}
-use Rattle.kt_node.specs.NodeSteps.{is_in, is_begun}
+use Rattle.kt_node.specs.NodeSteps.{is_in, is_begun, heeds}
 use Rattle.kt_node.specs.Nets.{Net, net_step, net_run, opening_from, opening_net}
 use Rattle.kt_node.specs.Erasing.{rows_from_each}
-use Rattle.kt_node.specs.FirstLabels.{raised, raised_call, raised_parcel, raised_net}
+use Rattle.kt_node.specs.FirstLabels.{raised, raised_call, raised_parcel}
 use Rattle.kt_node.proofs.RaisedCalls.{parts_of_raised, sents_raised, receiveds_raised}
 use Rattle.kt_node.proofs.RaisedNets.{net_raised, step_raised, same_rows}
 use Rattle.kt_node.proofs.Runs.{rows_numbered, speaks_shown, speaks_next}
-use Rattle.kt_node.proofs.Begun.{ask_begun, reply_owed, decision_asked}
+use Rattle.kt_node.proofs.Begun.{ask_begun, reply_owed, decision_asked, decision_heeded}
 
 -- labels that rise do so when they are raised
 rises : (a low : ℕ) (xs : List ℕ) → LabelsRise low xs → LabelsRise (raised a low) (map (raised a) xs)
@@ -100,6 +100,13 @@ module _ (n : ℕ) (first : ℕ → ℕ) (steps : List ProtocolStep) (p q : ℕ)
   decision_in k b rest (Reply j w ∷ l) e f = absurd (cc (f))
   decision_in k b rest (Decide j c ∷ l) e f = let same : j ≡ k = cc (f) in subst (λ (i : InstName). is_in ((net.nodes p).asks q) i ≡ true) same (decision_asked n 0 steps p q j c l e)
 
+  heeded_in : (k : InstName) (b : Bool) (rest l : List NodeParcel) → net.channel q p ≡ l → map (raised_parcel first q p) l ≡ Decide k b ∷ rest → heeds (net.nodes p) q k ≡ is_in (net.nodes p).inst k
+  heeded_in k b rest [] e f = absurd (cc (f))
+  heeded_in k b rest (App m d ∷ l) e f = absurd (cc (f))
+  heeded_in k b rest (Ask j was m ∷ l) e f = absurd (cc (f))
+  heeded_in k b rest (Reply j w ∷ l) e f = absurd (cc (f))
+  heeded_in k b rest (Decide j c ∷ l) e f = let same : j ≡ k = cc (f) in subst (λ (i : InstName). heeds (net.nodes p) q i ≡ is_in (net.nodes p).inst i) same (decision_heeded n 0 steps p q j c l e)
+
   pub begun_from_each : (k : InstName) (kind : Kind) (label : ℕ) (rest : List NodeParcel) → (net_run (opening_from n first) steps).channel q p ≡ Ask k kind label ∷ rest → is_begun ((net_run (opening_from n first) steps).nodes p) k ≡ true
   begun_from_each k kind label rest = subst (λ (w : Net). w.channel q p ≡ Ask k kind label ∷ rest → is_begun (w.nodes p) k ≡ true) (sym (net_raised first n steps)) (ask_in k kind label rest (net.channel q p) refl)
 
@@ -109,3 +116,7 @@ module _ (n : ℕ) (first : ℕ → ℕ) (steps : List ProtocolStep) (p q : ℕ)
 
   pub asked_from_each : (k : InstName) (b : Bool) (rest : List NodeParcel) → (net_run (opening_from n first) steps).channel q p ≡ Decide k b ∷ rest → is_in (((net_run (opening_from n first) steps).nodes p).asks q) k ≡ true
   asked_from_each k b rest = subst (λ (w : Net). w.channel q p ≡ Decide k b ∷ rest → is_in ((w.nodes p).asks q) k ≡ true) (sym (net_raised first n steps)) (decision_in k b rest (net.channel q p) refl)
+
+  pub heeded_from_each : (k : InstName) (b : Bool) (rest : List NodeParcel) → (net_run (opening_from n first) steps).channel q p ≡ Decide k b ∷ rest
+      → heeds ((net_run (opening_from n first) steps).nodes p) q k ≡ is_in ((net_run (opening_from n first) steps).nodes p).inst k
+  heeded_from_each k b rest = subst (λ (w : Net). w.channel q p ≡ Decide k b ∷ rest → heeds (w.nodes p) q k ≡ is_in (w.nodes p).inst k) (sym (net_raised first n steps)) (heeded_in k b rest (net.channel q p) refl)

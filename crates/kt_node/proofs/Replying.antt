@@ -98,11 +98,11 @@ in_some (Some name) k e f = absurd (cc (f))
 
 -- who is in this instance, which q asked it last to join
 pub heed_facts : (y : NodeState) (q : ℕ) (k : InstName) → heeds y q k ≡ true → is_in y.inst k ≡ true
-heed_facts y q k e = at_tests (is_in y.inst k) (is_in (y.asks q) k) e
+heed_facts y q k e = at_tests (is_in y.inst k) (is_in (y.asks q) k) _ e
   where
-    at_tests : (a b : Bool) → (a && b) ≡ true → a ≡ true
-    at_tests true b e = refl
-    at_tests false b e = absurd (cc (e))
+    at_tests : (a b c : Bool) → ((a && b) && c) ≡ true → a ≡ true
+    at_tests true b c e = refl
+    at_tests false b c e = absurd (cc (e))
 
 -- the decision of its own instance
 pub done_decided : (w : ManagerState) (e : Effects) (y : NodeState) (q : ℕ) (able : Bool) (k : InstName) (c : Bool) → heeds y q k ≡ true → IsDone w e (closing k c (nothing y)) → IsDone w e (taking y q able (put.Decide k c))

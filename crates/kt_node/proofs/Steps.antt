@@ -1,5 +1,5 @@
 -- Each step of a net is that of what is seen of the state.
-use Rattle.std.proofs.Common.{◌≡◌, ◌∙◌, ℕ, ◌≤◌, ◌<◌, Bool, true, false, not, List, [], ◌∷◌, refl, sym, ap, subst, arith}
+use Rattle.std.proofs.Common.{◌≡◌, ◌≢◌, ◌∙◌, ℕ, zero, suc, ◌≤◌, ◌<◌, Bool, true, false, not, List, [], ◌∷◌, refl, sym, ap, subst, arith}
 use Rattle.std.specs.Prelude.{◌==◌, ◌&&◌, if◌then◌else◌}
 use Rattle.std.proofs.lemmas.Bool.Decides.{nat_tests}
 use Rattle.kt_fifo.specs.declared.parcels.Parcel.{Parcel as SeenParcel}
@@ -8,10 +8,12 @@ use Rattle.kt_protocol.proofs.Answering.{reply_facts}
 use Rattle.kt_protocol.proofs.Beginning.{decide_facts}
 use Rattle.kt_protocol.proofs.LateWholeSteps.{once_closed_run}
 use Rattle.kt_protocol.proofs.Replying.{ask_facts}
+use Rattle.kt_protocol.proofs.Updates.{is_other}
 use Rattle.kt_protocol.proofs.WholeSteps.{all_after_run}
 use Rattle.kt_protocol.specs.Parcels.{Parcel, App, Ask, Reply, Decide}
 use Rattle.kt_protocol.specs.States.{ProtocolStep, Send, Begin, Fail, Take, State, opening}
 use Rattle.kt_protocol.specs.LateSteps.{late_run}
+use Rattle.kt_protocol.specs.Deciding.{none_of}
 use Rattle.kt_protocol.specs.OnceClosed.{once_closed}
 use Rattle.kt_machine.specs.Labelling.{Labelling, labelling}
 use Rattle.kt_machine.specs.Messages.{AreSentTo}
@@ -22,15 +24,17 @@ use Rattle.kt_machine.specs.Transition.{is_seen_ready, seen_front, seen_take, tr
 use Rattle.kt_machine.proofs.LogFacts.{used_is}
 use Rattle.kt_machine.proofs.RunFacts.{channel_sent, held_to}
 use Rattle.kt_machine.proofs.Runs.{known_run, tells_runs}
+use Rattle.kt_machine.proofs.SameSeen.{count_none}
 use Rattle.kt_spacetime.specs.declared.names.InstName.{InstName}
 use Rattle.kt_node.specs.declared.parcels.NodeParcel.{NodeParcel}
 use Rattle.kt_node.specs.Nodes.{NodeState, nothing}
 use Rattle.kt_node.specs.NodeMessages.{taking_held}
 use Rattle.kt_node.specs.NodeJoining.{asking}
-use Rattle.kt_node.specs.NodeSteps.{is_in}
+use Rattle.kt_node.specs.NodeSteps.{is_in, heeds}
 use Rattle.kt_node.specs.Nets.{Net, with_doing, with_rest, has_some, net_front, net_step}
 use Rattle.kt_node.specs.Erasing.{erased_parcels}
 use Rattle.kt_node.proofs.Naming.{IsNaming}
+use Rattle.kt_node.proofs.Initiators.{named_by}
 use Rattle.kt_node.proofs.Told.{given}
 use Rattle.kt_node.proofs.Done.{node_of, Shows, IsDone, shows_done, done_nothing, done_heard}
 use Rattle.kt_node.proofs.Columns.{rest_for, rest_other, rest_of_channel}
@@ -38,7 +42,7 @@ use Rattle.kt_node.proofs.MessageRules.{done_lists, done_arriving}
 use Rattle.kt_node.proofs.Commands.{ends_begin, ends_send, ends_fail}
 use Rattle.kt_node.proofs.Owing.{Follows}
 use Rattle.kt_node.proofs.Owed.{IsDue}
-use Rattle.kt_node.proofs.Takings.{done_ask, done_decision, done_reply, done_message, ready_test}
+use Rattle.kt_node.proofs.Takings.{MayHeed, in_test, heed_test, done_ask, done_decision, done_reply, done_message, ready_test}
 
 module _ (n first : ℕ) (steps : List ProtocolStep) (name : ℕ → InstName) (count : ℕ → ℕ) (w : Net) (s : Shows name first count w (seen first (late_run (opening n) steps))) (due : IsDue (late_run (opening n) steps) w) where
   abbrev c : State
@@ -93,10 +97,54 @@ module _ (n first : ℕ) (steps : List ProtocolStep) (name : ℕ → InstName) (
           at_test true x = absurd (none j x (subst (λ (n : ℕ). 0 < n) (sym i) b))
           at_test false x = ap (λ (n : ℕ). c.asked n p q) i ∙ a
 
+  -- who is in an instance that is decided did not begin it
+  pub begun_by_other : (p q k : ℕ) (b : Bool) (rest : List Parcel) → c.channel q p ≡ Decide k b ∷ rest → c.so_far.open_in p ≡ k → ((name k).initiator == p) ≡ false
+  begun_by_other p q k b rest e o =
+      let g = (known_run n steps).invariant in
+      let f = decide_facts (once_closed c) q p k b rest e g in
+      let pos = g.positions.decided_instance k f.0 in
+      let told = subst (λ (z : State). 0 < k → z.so_far.open_in p ≡ k → z.so_far.is_decided k ≡ true → p ≢ z.initiator k) (sym (once_closed_run n steps)) (λ l i d. (((all_after_run n steps).waiting k p).told l i d).0) in
+      let named : (name k).initiator ≡ c.initiator k = named_by c.log name k (c.initiator k) (s.told.naming.names k pos.0 (subst (λ (m : ℕ). k ≤ m) (sym s.told.begun_is) pos.1)) ((known_run n steps).lawful.first k pos.0 pos.1) in
+      ap (λ (m : ℕ). m == p) named ∙ is_other (c.initiator k) p (λ i. told pos.0 o f.0 (sym i))
+
+  -- and awaits nobody
+  awaits_none : (p q k : ℕ) (b : Bool) (rest : List Parcel) → c.channel q p ≡ Decide k b ∷ rest → c.so_far.open_in p ≡ k → ((v.states p).part.awaited == 0) ≡ true
+  awaits_none p q k b rest e o = here (c.so_far.open_in p) o
+    where
+      none : (m : ℕ) (f : ℕ → Bool) → ((u : ℕ) → f u ≡ false) → none_of m f ≡ true
+      none zero f h = refl
+      none (suc m) f h = rw (h m, none m f h) refl
+
+      quiet : (u : ℕ) → c.awaits k p u ≡ false
+      quiet u = at_test (c.awaits k p u) refl
+        where
+          at_test : (z : Bool) → c.awaits k p u ≡ z → c.awaits k p u ≡ false
+          at_test false x = x
+          at_test true x =
+              let g = (known_run n steps).invariant in
+              let d = (decide_facts (once_closed c) q p k b rest e g).0 in
+              let open_still = (g.asks.awaits_joined k p u x).1 in
+              absurd (cc (d, open_still))
+
+      here : (j : ℕ) → j ≡ k → ((if j == 0 then no_part else part_of t c p j).awaited == 0) ≡ true
+      here j i = at_test (j == 0)
+        where
+          at_test : (z : Bool) → ((if z then no_part else part_of t c p j).awaited == 0) ≡ true
+          at_test true = refl
+          at_test false = count_none c.processes (c.awaits j p) ∙ none c.processes (c.awaits j p) (λ u. ap (λ (m : ℕ). c.awaits m p u) i ∙ quiet u)
+
   -- and a decision is of what its sender asked last
-  pub decision_due : (p q k : ℕ) (b : Bool) (rest : List Parcel) → c.channel q p ≡ Decide k b ∷ rest → is_in ((w.nodes p).asks q) (name k) ≡ true
+  pub decision_due : (p q k : ℕ) (b : Bool) (rest : List Parcel) → c.channel q p ≡ Decide k b ∷ rest → MayHeed name p (w.nodes p) v q k
   unfolding seen_parcels
-  decision_due p q k b rest e = (subst (Follows ((w.nodes p).asks q)) (s.channels q p ∙ ap (λ (x : List Parcel). erased_parcels name (parcels x)) e) (due.told q p).0).0
+  decision_due p q k b rest e =
+      ((subst (Follows ((w.nodes p).asks q)) (s.channels q p ∙ ap (λ (x : List Parcel). erased_parcels name (parcels x)) e) (due.told q p).0).0, λ o. (begun_by_other p q k b rest e o, awaits_none p q k b rest e o))
+
+  -- so who is in its instance heeds it
+  pub heeds_each : (p q k : ℕ) (b : Bool) (rest : List Parcel) → c.channel q p ≡ Decide k b ∷ rest → heeds (w.nodes p) q (name k) ≡ is_in (w.nodes p).inst (name k)
+  heeds_each p q k b rest e =
+      let g = (known_run n steps).invariant in
+      let pos = g.positions.decided_instance k (decide_facts (once_closed c) q p k b rest e g).0 in
+      heed_test name first w p count (w.nodes p) v (begins p) (low p) q k pos.0 pos.1 (decision_due p q k b rest e) ∙ sym (in_test name first w p count (w.nodes p) v (begins p) (low p) k pos.0 pos.1)
 
   -- the front of a channel
   shows_front : (p q : ℕ) (able : Bool) (x : List Parcel) → c.channel q p ≡ x → Shows name first count (net_front w p q able (erased_parcels name (parcels x))) (seen_front v p q able (parcels x))

@@ -42,6 +42,10 @@ none k low = grind (arith, nat_tests, low)
 is_zero : (k : ℕ) → (k == 0) ≡ true → k ≡ 0
 is_zero k e = grind (arith, nat_tests, e)
 
+-- q asked p last to join k, in which p is only where another process began it and all have replied
+abbrev pub MayHeed : (ℕ → InstName) → ℕ → NodeState → Seen → ℕ → ℕ → Type 0
+MayHeed name p y v q k = (is_in (y.asks q) (name k) ≡ true) × ((v.states p).inst ≡ k → (((name k).initiator == p) ≡ false) × (((v.states p).part.awaited == 0) ≡ true))
+
 module _ (name : ℕ → InstName) (first : ℕ) (w : Net) (p : ℕ) (count : ℕ → ℕ) (y : NodeState) (v : Seen) (h : IsDone name first w p count (nothing y) v) (within : (v.states p).inst ≤ v.begun) where
   -- p's instance is k exactly where it has k's name
   pub in_test : (k : ℕ) → 1 ≤ k → k ≤ v.begun → is_in y.inst (name k) ≡ ((v.states p).inst == k)
@@ -116,14 +120,20 @@ module _ (name : ℕ → InstName) (first : ℕ) (w : Net) (p : ℕ) (count : �
           same = ap (λ (b : Bool). is_in (if b then None else Some (name (v.states p).inst)) (name k)) (sym e) ∙ (sym (ap (λ (x : NodeState). is_in x.inst (name k)) h.state) ∙ in_test k low high)
 
   -- a decision of who asked p to join k
-  pub heed_test : (q k : ℕ) → 1 ≤ k → k ≤ v.begun → is_in (y.asks q) (name k) ≡ true → heeds y q (name k) ≡ ((v.states p).inst == k)
-  heed_test q k low high a = ap (λ (b : Bool). is_in y.inst (name k) && b) a ∙ (and_true (is_in y.inst (name k)) ∙ in_test k low high)
+  pub heed_test : (q k : ℕ) → 1 ≤ k → k ≤ v.begun → MayHeed name p y v q k → heeds y q (name k) ≡ ((v.states p).inst == k)
+  heed_test q k low high a =
+      ap₂ (λ (i : Bool) (x : NodeState). (i && is_in (y.asks q) (name k)) && (not ((name k).initiator == x.me) && x.part.awaited == 0)) (in_test k low high) h.state
+      ∙ heeded ((v.states p).inst == k) (is_in (y.asks q) (name k)) ((name k).initiator == p) ((v.states p).part.awaited == 0) a.0 (λ i. a.1 (inside (v.states p).inst k i))
     where
-      and_true : (b : Bool) → (b && true) ≡ b
-      and_true true = refl
-      and_true false = refl
+      inside : (n m : ℕ) → (n == m) ≡ true → n ≡ m
+      inside n m e = grind (arith, nat_tests, e)
 
-  pub done_decision : (q : ℕ) (able : Bool) (k : ℕ) (c : Bool) → 1 ≤ k → k ≤ v.begun → is_in (y.asks q) (name k) ≡ true → IsDone name first w p count (taking y q able (put.Decide (name k) c)) (if (v.states p).inst == k then seen_closing v p k c else v)
+      heeded : (i t n z : Bool) → t ≡ true → (i ≡ true → (n ≡ false) × (z ≡ true)) → ((i && t) && (not n && z)) ≡ i
+      heeded false t n z e f = refl
+      heeded true true n z e f = rw ((f refl).0, (f refl).1) refl
+      heeded true false n z e f = absurd (cc (e))
+
+  pub done_decision : (q : ℕ) (able : Bool) (k : ℕ) (c : Bool) → 1 ≤ k → k ≤ v.begun → MayHeed name p y v q k → IsDone name first w p count (taking y q able (put.Decide (name k) c)) (if (v.states p).inst == k then seen_closing v p k c else v)
   done_decision q able k c low high a = choose name first w p count y v h (heeds y q (name k)) ((v.states p).inst == k) _ _ _ _ (heed_test q k low high a) (done_closing name first w p count (nothing y) v k low high h c) h
 
   -- a reply of who was asked and has not replied, which is one that p's instance awaits where p awaits any

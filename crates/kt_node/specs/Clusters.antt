@@ -1,5 +1,5 @@
 -- Nodes with links in one program, and which net with clocks they are.
-use Rattle.std.specs.Prelude.{◌≡◌, ◌<◌, ◌≤◌, ◌+◌, ◌==◌, ◌&&◌, not, if◌then◌else◌, ℕ, Option, Some, None, Result, Ok, Err, List, [], ◌∷◌, length, map, take, slice_index, slice_index_or}
+use Rattle.std.specs.Prelude.{◌≡◌, ◌<◌, ◌≤◌, ◌+◌, ◌-◌, ◌^◌, ◌==◌, ◌&&◌, not, if◌then◌else◌, ℕ, Option, Some, None, Result, Ok, Err, List, [], ◌∷◌, length, map, take, slice_index, slice_index_or}
 use Rattle.kt_meaning.specs.Past.{is_rollback_kind}
 use Rattle.kt_meaning.specs.Names.{numbered}
 use Rattle.kt_meaning.specs.Promised.{IsPromised, IsCertified}
@@ -21,6 +21,8 @@ use Rattle.kt_node.specs.declared.cluster.ClusterFault.TheVariants as fault
 use Rattle.kt_node.specs.declared.cluster.ClusterStep.{ClusterStep}
 use Rattle.kt_node.specs.declared.cluster.ClusterStep.TheVariants.{Send, Begin, Fail, Take}
 use Rattle.kt_node.specs.declared.cluster.OnWay.{OnWay}
+use Rattle.kt_node.specs.declared.node.NodeFault.{NodeFault}
+use Rattle.kt_node.specs.declared.node.NodeFault.TheVariants as node_fault
 use Rattle.kt_node.specs.declared.node.Output.{Output}
 use Rattle.kt_node.specs.declared.faults.ManagerFault.{ManagerFault}
 use Rattle.kt_node.specs.Effects.{IsDone, put_to, rows_told}
@@ -113,6 +115,31 @@ IsRefusedIn y o (Err (fault.Node f)) = IsNodeRefusedAs (fault_coming y o) (Err f
 -- what tables answer for at a step
 abbrev pub IsSpeakable : NodeState → ProtocolStep → List Envelope → Type 0
 IsSpeakable y x es = (i : Input) → input_at y x es ≡ Some i → Speaks ((node_after y i).state.calls)
+
+-- no clock follows for what comes to a node
+abbrev pub IsSpent : ℕ → Option Input → List Envelope → Type 0
+IsSpent clock None es = ⊥
+IsSpent clock (Some x) es = 2 ^ 64 - 1 ≤ clock_after clock x es
+
+abbrev pub IsSpentIn : ClockedNet → ProtocolStep → Type 0
+IsSpentIn w x = IsSpent (w.clock (stepper x)) (coming_to w x) (w.channel (source_of x) (stepper x))
+
+-- a call is refused for its clock exactly where this holds
+abbrev pub IsSpentOf : Type 0 → NodeFault → Type 0
+IsSpentOf P node_fault.ClockSpent = P
+IsSpentOf P node_fault.Astray = P → ⊥
+IsSpentOf P (node_fault.Gap n) = P → ⊥
+IsSpentOf P node_fault.Leap = P → ⊥
+IsSpentOf P node_fault.Stale = P → ⊥
+IsSpentOf P (node_fault.Manager f) = P → ⊥
+
+-- so is a step of a process that is there, where memory is no reason
+abbrev pub IsSpentAs : {X : Type 0} → Type 0 → Result X ClusterFault → Type 0
+IsSpentAs P (Ok x) = P → ⊥
+IsSpentAs P (Err fault.Unknown) = ⊥
+IsSpentAs P (Err fault.NothingToTake) = P → ⊥
+IsSpentAs P (Err fault.Memory) = Unit {0}
+IsSpentAs P (Err (fault.Node f)) = IsSpentOf P f
 
 -- what the node that steps does, if anything comes to it
 abbrev pub doing_at : NodeState → Option Input → Doing

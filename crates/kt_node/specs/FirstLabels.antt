@@ -1,5 +1,5 @@
 -- The same net where each process counts its messages on from a label of its own.
-use Rattle.std.specs.Prelude.{ℕ, zero, suc, ◌+◌, option_map, List, map}
+use Rattle.std.specs.Prelude.{ℕ, zero, suc, ◌+◌, option_map, map}
 use Rattle.kt_base.specs.declared.words.Kind.{Kind}
 use Rattle.kt_base.specs.declared.words.Kind.TheVariants.{Checkpoint, Rollback}
 use Rattle.kt_tables.specs.Calls.{Call, sent, received, on_tentative, on_commit, on_abort, on_rollback}

@@ -61,15 +61,16 @@ asked None y q able k roll label = asked_outside y q able k roll label
 abbrev pub awaits : NodeState → ℕ → InstName → Bool
 awaits y q k = (is_in y.inst k && not (y.part.awaited == 0)) && (y.part.asked q && not (y.answered q))
 
--- it is in k, and this is what q asked it last to join
+-- it is in k, which another process began, awaits nobody, and this is what q asked it last to join
 abbrev pub heeds : NodeState → ℕ → InstName → Bool
-heeds y q k = is_in y.inst k && is_in (y.asks q) k
+heeds y q k = (is_in y.inst k && is_in (y.asks q) k) && (not (k.initiator == y.me) && y.part.awaited == 0)
 
 -- q has replied
 abbrev pub counting : NodeState → ℕ → Bool → NodeState
 counting y q willing = record y { part = part_after_reply y.part willing; answered = at_one q true y.answered }
 
--- a parcel of q: a reply counts only where it is awaited of q, and a decision only where q asked to join its instance
+-- a parcel of q: a reply counts only where it is awaited of q, and a decision only where q asked to join its instance, which
+-- another process began and where all have replied
 abbrev pub taking : NodeState → ℕ → Bool → NodeParcel → Doing
 taking y q able (App label body) = if is_in_rollback y then holding y q (App label body) else arriving y q label body
 taking y q able (Ask k kind label) = asked y.inst (asking y q k) q able k (is_rollback_kind (Some kind)) label

@@ -13,7 +13,7 @@ ghost use Rattle.kt_spacetime.specs.ClockedRows.{rows_of};
 ghost use Rattle.kt_system.specs.ShownActs.{acts_shown};
 ghost use Rattle.kt_node.specs.Effects.{rows_told};
 ghost use Rattle.kt_node.specs.Links.{NodeLinks};
-ghost use Rattle.kt_node.specs.Clusters.{step_of, net_after, IsRun, AreFresh, ArePromised, coming_to, IsRefusedIn, IsPutOut, HasNextNumbers};
+ghost use Rattle.kt_node.specs.Clusters.{step_of, net_after, IsRun, AreFresh, ArePromised, coming_to, IsRefusedIn, IsSpentIn, IsSpentAs, IsPutOut, HasNextNumbers};
 ghost use Rattle.kt_node.specs.declared.cluster.ClusterFault.TheVariants as fault;
 
 use crate::node::{Node, NodeFault, Output};
@@ -209,6 +209,9 @@ impl Cluster {
             let w = net_after self.old steps in
             (result ≡ Err fault.Unknown → ⊥) →
             IsRefusedIn (w.nodes (stepper (step_of next.now))) (coming_to w (step_of next.now)) result }
+        ensures spent { (steps : List ProtocolStep) → IsRun self.old steps →
+            (result ≡ Err fault.Unknown → ⊥) →
+            IsSpentAs (IsSpentIn (net_after self.old steps) (step_of next.now)) result }
         ensures unknown { IsErrOf result fault.Unknown
             ↔ (length self.old.nodes ≤ stepper (step_of next.now)) }
         ensures nodes { length self.new.nodes ≡ length self.old.nodes }

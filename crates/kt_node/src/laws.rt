@@ -16,7 +16,7 @@ ghost use Rattle.kt_node.specs.declared.parcels.NodeParcel.{NodeParcel};
 ghost use Rattle.kt_node.specs.declared.parcels.NodeParcel.TheVariants.{Ask, Reply, Decide};
 ghost use Rattle.kt_node.specs.Nodes.{NodeState, Input, Comes, nothing};
 ghost use Rattle.kt_node.specs.Nodes as input;
-ghost use Rattle.kt_node.specs.NodeSteps.{is_in, is_begun, node_after};
+ghost use Rattle.kt_node.specs.NodeSteps.{is_in, is_begun, heeds, node_after};
 ghost use Rattle.kt_node.specs.Faults.{fault_at};
 ghost use Rattle.kt_node.specs.NodeLooks.{where_able, would_save};
 ghost use Rattle.kt_node.specs.NodeHistories.{histories, calls_told, GoesOn, HasCheckpoints};
@@ -61,7 +61,7 @@ pub fn nets_are_runs()
         numbered (rows_from_each first (net_run (opening_from n first) steps).rows) ≡ Some (late_run (opening n) steps).log }
 
     // Of what comes nothing is forged: who is asked to join is asked to join an instance whose initiator is there, and in it;
-    // a reply is of who was asked and has not replied; a decision is of who asked.
+    // a reply is of who was asked and has not replied; a decision is of who asked, and who is in its instance heeds it.
     ensures begun { (n : ℕ) (first : ℕ → ℕ) (steps : List ProtocolStep) (p q : ℕ) (k : InstName) (kind : Kind)
         (label : ℕ) (rest : List NodeParcel) →
         let net = net_run (opening_from n first) steps in
@@ -74,6 +74,10 @@ pub fn nets_are_runs()
         (rest : List NodeParcel) →
         let net = net_run (opening_from n first) steps in
         net.channel q p ≡ Decide k c ∷ rest → is_in ((net.nodes p).asks q) k ≡ true }
+    ensures heeded { (n : ℕ) (first : ℕ → ℕ) (steps : List ProtocolStep) (p q : ℕ) (k : InstName) (c : Bool)
+        (rest : List NodeParcel) →
+        let y = (net_run (opening_from n first) steps).nodes p in
+        (net_run (opening_from n first) steps).channel q p ≡ Decide k c ∷ rest → heeds y q k ≡ is_in y.inst k }
 
     // Tables answer for the list of calls of each node, also after one more step.
     ensures speaks { (n : ℕ) (first : ℕ → ℕ) (steps : List ProtocolStep) (p : ℕ) →
@@ -211,8 +215,13 @@ pub fn forged_parcels()
     ensures twice { (y : NodeState) (q : ℕ) (able w again v : Bool) (k : InstName) →
         let z = (node_after y (Comes q able (Reply k w))).state in node_after z (Comes q again (Reply k v)) ≡ nothing z }
 
-    // A decision of who did not ask last to join its instance changes nothing.
+    // A decision of who did not ask last to join its instance changes nothing, and neither does one of an instance that the
+    // node began itself, or one before all have replied that it asked.
     ensures not_asker { (y : NodeState) (q : ℕ) (able c : Bool) (k : InstName) → is_in (y.asks q) k ≡ false →
+        node_after y (Comes q able (Decide k c)) ≡ nothing y }
+    ensures own_decision { (y : NodeState) (q : ℕ) (able c : Bool) (k : InstName) → k.initiator ≡ y.me →
+        node_after y (Comes q able (Decide k c)) ≡ nothing y }
+    ensures early_decision { (y : NodeState) (q : ℕ) (able c : Bool) (k : InstName) → 0 < y.part.awaited →
         node_after y (Comes q able (Decide k c)) ≡ nothing y }
 
     // An ask of an instance that no process began is refused, and one of its own that it is not in.

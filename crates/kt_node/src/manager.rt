@@ -1,6 +1,6 @@
 //! A manager: what it holds, and what can be read of it.
 
-ghost use Rattle.std.specs.Prelude.{◌≡◌, ◌<◌, ◌≤◌, ◌&&◌, ◌↔◌, not, ℕ, true, false, Some, None, IsTrue, IfOk, IfErr, IfSome, IfNone, OnOk};
+ghost use Rattle.std.specs.Prelude.{◌≡◌, ◌<◌, ◌≤◌, ◌&&◌, ◌↔◌, not, ℕ, true, false, Some, None, IsTrue, IfOk, IfErr, IfSome, IfNone, OnOk, OnErr, IsErrOf};
 ghost use Rattle.kt_process.specs.ProcessStates.{is_ready};
 ghost use Rattle.kt_node.specs.Nodes.{NodeState, is_in_rollback};
 ghost use Rattle.kt_node.specs.NodeSteps.{is_in, is_one};
@@ -9,6 +9,7 @@ ghost use Rattle.kt_node.specs.Managers.{IsSoundManager, ShowsNode, HasBack, IsS
 ghost use Rattle.kt_node.specs.ManagerParts.{state_of};
 ghost use Rattle.kt_node.specs.OwnParts.{HasOwnPart};
 ghost use Rattle.kt_node.specs.Faults.{stranger};
+ghost use Rattle.kt_node.specs.declared.faults.ManagerFault.TheVariants as fault;
 
 use crate::faults::ManagerFault;
 use kt_base::{InstNo, Label, Memory, ProcNo, ProcSet};
@@ -254,6 +255,7 @@ impl Manager {
         ensures ok { OnOk result ((y : NodeState) → ShowsNode self.now y → stranger y q ≡ None) }
         ensures err { IfErr result (λ f. (y : NodeState) → ShowsNode self.now y →
             stranger y q ≡ Some f) }
+        ensures memory { IsErrOf result fault.Memory → ⊥ }
     {
         if q.index() >= self.size {
             return Err(ManagerFault::Unknown);
@@ -268,6 +270,7 @@ impl Manager {
     fn make_room_back(&mut self) -> Result<(), Memory>
         ensures same { IsSameManager self.new self.old }
         ensures back { OnOk result (is_ready self.old.process.side ≡ true → HasBack self.new) }
+        ensures memory { OnErr result (is_ready self.old.process.side ≡ true) }
     {
         if self.process.is_ready() {
             return make_room_back(&mut self.held, &self.kept, self.me);

@@ -11,11 +11,12 @@ ghost use Rattle.kt_node.specs.NodeHistories.{histories, sent_labels};
 ghost use Rattle.kt_node.specs.Nets.{opening_net};
 ghost use Rattle.kt_node.specs.Managers.{ShowsNode};
 ghost use Rattle.kt_node.specs.Effects.{put_to, calls_of};
-ghost use Rattle.kt_node.specs.Faults.{fault_at};
+ghost use Rattle.kt_node.specs.Faults.{fault_at, wants_memory};
 ghost use Rattle.kt_node.specs.Looks.{is_met, node_look};
 ghost use Rattle.kt_node.specs.Meetings.{is_stale_held, meeting_of, next_number};
 ghost use Rattle.kt_node.specs.Reaches.{HasReaches};
 ghost use Rattle.kt_node.specs.Links.{AreCounted, ShowsLinks, IsStep, TakesNext, IsUntaken, IsSameNode, IsSpoken, IsGiven, IsHeldMetAs, IsMetAs, IsNodeRefusedAs, IsParcelRefusedAs};
+ghost use Rattle.kt_node.specs.declared.faults.ManagerFault.TheVariants as of_manager;
 ghost use Rattle.kt_node.specs.declared.node.NodeFault.TheVariants as fault;
 
 use crate::effects::{Effects, Parcels};
@@ -326,7 +327,8 @@ impl Node {
         ensures refused { (y : NodeState) → ShowsNode self.old.manager y →
             IsNodeRefusedAs (fault_at y (Send to body)) result }
         ensures given { IsGiven result }
-        ensures spent { IsErrOf result fault.ClockSpent → 2 ^ 64 - 2 ≤ self.old.clock }
+        ensures spent { IsErrOf result fault.ClockSpent ↔ (2 ^ 64 - 2 ≤ self.old.clock) }
+        ensures memory { IsErrOf result (fault.Manager of_manager.Memory) → ⊥ }
         ensures taken { self.new.taken ≡ self.old.taken }
         ensures err { OnErr result (IsSameNode self.new self.old) }
     {
@@ -351,7 +353,7 @@ impl Node {
         ensures refused { (y : NodeState) → ShowsNode self.old.manager y →
             IsNodeRefusedAs (fault_at y (Begin (is_rollback_kind (Some kind)) able)) result }
         ensures given { IsGiven result }
-        ensures spent { IsErrOf result fault.ClockSpent → 2 ^ 64 - 2 ≤ self.old.clock }
+        ensures spent { IsErrOf result fault.ClockSpent ↔ (2 ^ 64 - 2 ≤ self.old.clock) }
         ensures taken { self.new.taken ≡ self.old.taken }
         ensures err { OnErr result (IsSameNode self.new self.old) }
     {
@@ -367,7 +369,8 @@ impl Node {
         ensures refused { (y : NodeState) → ShowsNode self.old.manager y →
             IsNodeRefusedAs (fault_at y Fail) result }
         ensures given { IsGiven result }
-        ensures spent { IsErrOf result fault.ClockSpent → 2 ^ 64 - 2 ≤ self.old.clock }
+        ensures spent { IsErrOf result fault.ClockSpent ↔ (2 ^ 64 - 2 ≤ self.old.clock) }
+        ensures memory { IsErrOf result (fault.Manager of_manager.Memory) → ⊥ }
         ensures taken { self.new.taken ≡ self.old.taken }
         ensures err { OnErr result (IsSameNode self.new self.old) }
     {
@@ -384,7 +387,10 @@ impl Node {
         ensures refused { (y : NodeState) → ShowsNode self.old.manager y →
             is_stale_held self.old from ≡ false →
             IsNodeRefusedAs (fault_at y (Held from)) result }
-        ensures spent { IsErrOf result fault.ClockSpent → 2 ^ 64 - 2 ≤ self.old.clock }
+        ensures spent { IsErrOf result fault.ClockSpent
+            ↔ ((is_stale_held self.old from ≡ false) × (2 ^ 64 - 2 ≤ self.old.clock)) }
+        ensures memory { (y : NodeState) → ShowsNode self.old.manager y →
+            IsErrOf result (fault.Manager of_manager.Memory) → wants_memory y (Held from) ≡ true }
         ensures taken { self.new.taken ≡ self.old.taken }
         ensures err { OnErr result (IsSameNode self.new self.old) }
     {
@@ -402,7 +408,9 @@ impl Node {
         ensures refused { (y : NodeState) → ShowsNode self.old.manager y →
             IsNodeRefusedAs (fault_at y (Held from)) result }
         ensures given { IsGiven result }
-        ensures spent { IsErrOf result fault.ClockSpent → 2 ^ 64 - 2 ≤ self.old.clock }
+        ensures spent { IsErrOf result fault.ClockSpent ↔ (2 ^ 64 - 2 ≤ self.old.clock) }
+        ensures memory { (y : NodeState) → ShowsNode self.old.manager y →
+            IsErrOf result (fault.Manager of_manager.Memory) → wants_memory y (Held from) ≡ true }
         ensures taken { self.new.taken ≡ self.old.taken }
         ensures err { OnErr result (IsSameNode self.new self.old) }
     {
@@ -427,8 +435,12 @@ impl Node {
         ensures met { IsMetAs (meeting_of self.old from envelope.now) result }
         ensures refused { (y : NodeState) → ShowsNode self.old.manager y →
             IsParcelRefusedAs (fault_at y (Comes from able envelope.now.parcel)) result }
-        ensures spent { IsErrOf result fault.ClockSpent →
-            2 ^ 64 - 2 ≤ max self.old.clock envelope.now.clock }
+        ensures spent { IsErrOf result fault.ClockSpent
+            ↔ ((meeting_of self.old from envelope.now ≡ Ok true)
+            × (2 ^ 64 - 2 ≤ max self.old.clock envelope.now.clock)) }
+        ensures memory { let x = Comes from able envelope.now.parcel in
+            (y : NodeState) → ShowsNode self.old.manager y →
+            IsErrOf result (fault.Manager of_manager.Memory) → wants_memory y x ≡ true }
         ensures err { OnErr result (IsSameNode self.new self.old) }
     {
         if !self.meet(from, envelope)? {
@@ -453,7 +465,10 @@ impl Node {
         ensures refused { (y : NodeState) → ShowsNode self.old.manager y →
             IsNodeRefusedAs (fault_at y (Comes from able parcel.now)) result }
         ensures given { IsGiven result }
-        ensures spent { IsErrOf result fault.ClockSpent → 2 ^ 64 - 2 ≤ max self.old.clock came }
+        ensures spent { IsErrOf result fault.ClockSpent ↔ (2 ^ 64 - 2 ≤ max self.old.clock came) }
+        ensures memory { (y : NodeState) → ShowsNode self.old.manager y →
+            IsErrOf result (fault.Manager of_manager.Memory) →
+            wants_memory y (Comes from able parcel.now) ≡ true }
         ensures taken { OnOk result ((q : ℕ) → slice_index self.new.taken q
             ≡ at_one from (next_number self.old from) (slice_index self.old.taken) q) }
         ensures err { OnErr result (IsSameNode self.new self.old) }

@@ -1,3 +1,4 @@
+pub mod Counted
 pub mod Bits
 pub mod GatheredReads
 pub mod ListReads

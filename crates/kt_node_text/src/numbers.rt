@@ -1,6 +1,6 @@
 //! Numbers that are read one after another.
 
-ghost use Rattle.std.specs.Prelude.{◌≡◌, ◌≤◌, ◌∷◌, ◌++◌, ℕ, ℤ, Bool, Option, List, length, All, FitsSigned, IfOk, IfErr, IfSome};
+ghost use Rattle.std.specs.Prelude.{◌≡◌, ◌<◌, ◌≤◌, ◌∷◌, ◌++◌, ℕ, ℤ, Bool, Option, List, length, All, FitsSigned, IfOk, IfErr, IfSome, IsErrOf};
 ghost use Rattle.std.specs.Int.{w64};
 ghost use Rattle.kt_base.specs.Numbers.{IsProcNo, IsLabel, IsInstNo, IsMsgNo};
 ghost use Rattle.kt_base.specs.declared.words.Kind.{Kind as kinds};
@@ -41,6 +41,22 @@ impl<'a> Numbers<'a> {
                 Ok(*number)
             }
             None => Err(LoadFault::Form),
+        }
+    }
+
+    /// How many things follow, each of at least a number: more than there are numbers left is no form.
+    pub(crate) fn count(&mut self) -> Result<u64, LoadFault>
+        ensures read { (n : ℕ) (after : List ℕ) → n ≤ length after →
+            self.old.rest.now ≡ n ∷ after → IsRead n after result self.new.rest.now }
+        ensures few { (n : ℕ) (after : List ℕ) → length after < n →
+            self.old.rest.now ≡ n ∷ after → IsErrOf result fault.Form }
+        ensures form { IfErr result (λ f. f ≡ fault.Form) }
+    {
+        let count = self.next()?;
+        if count <= self.rest.len() as u64 {
+            Ok(count)
+        } else {
+            Err(LoadFault::Form)
         }
     }
 
@@ -187,11 +203,13 @@ impl<'a> Numbers<'a> {
 
     /// Pairs of a process and a label, after how many there are.
     pub(crate) fn pairs(&mut self, alloc: Global) -> Result<Vec<(ProcNo, Label)>, LoadFault>
-        ensures { (xs : List (ℕ × ℕ)) (after : List ℕ) → All IsPair xs →
+        ensures read { (xs : List (ℕ × ℕ)) (after : List ℕ) → All IsPair xs →
             self.old.rest.now ≡ counted of_pair xs ++ after →
             IsReadAs (λ pairs. pairs.items ≡ xs) after result self.new.rest.now }
+        ensures few { (n : ℕ) (after : List ℕ) → length after < n →
+            self.old.rest.now ≡ n ∷ after → IsErrOf result fault.Form }
     {
-        let count = self.next()?;
+        let count = self.count()?;
         let mut pairs = Vec::new(alloc);
         for _ in 0..count {
             let process = self.process()?;
@@ -203,10 +221,12 @@ impl<'a> Numbers<'a> {
 
     /// A list of numbers, after how many there are.
     pub(crate) fn list(&mut self, alloc: Global) -> Result<Vec<usize>, LoadFault>
-        ensures { (xs after : List ℕ) → self.old.rest.now ≡ of_list xs ++ after →
+        ensures read { (xs after : List ℕ) → self.old.rest.now ≡ of_list xs ++ after →
             IsReadAs (λ list. list.items ≡ xs) after result self.new.rest.now }
+        ensures few { (n : ℕ) (after : List ℕ) → length after < n →
+            self.old.rest.now ≡ n ∷ after → IsErrOf result fault.Form }
     {
-        let count = self.next()?;
+        let count = self.count()?;
         let mut list = Vec::new(alloc);
         for _ in 0..count {
             let number = self.next()?;

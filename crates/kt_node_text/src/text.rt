@@ -1,7 +1,7 @@
 //! A node as bytes, and a node of bytes.
 
-ghost use Rattle.std.specs.Prelude.{◌≡◌, ◌++◌, IfOk, OnOk, OnErr, IsErrOf};
-ghost use Rattle.kt_checksum.specs.Checksums.{DifferInOneByte};
+ghost use Rattle.std.specs.Prelude.{◌≡◌, ◌++◌, ℕ, List, IfOk, OnOk, OnErr, IsErrOf};
+ghost use Rattle.kt_checksum.specs.Checksums.{sealed, DifferInOneByte};
 ghost use Rattle.kt_node_text.specs.Form.{text_of};
 ghost use Rattle.kt_node_text.specs.Sameness.{IsSound, IsOwn, IsSameState};
 ghost use Rattle.kt_node.specs.Links.{NodeLinks};
@@ -34,6 +34,9 @@ pub fn load(alloc: Global, bytes: &[u8]) -> Result<Node, LoadFault>
         IfOk result (λ node. IsSameState w node) }
     ensures form { IsErrOf result fault.Form → (w : NodeLinks) → IsOwn w →
         bytes.now ≡ text_of w → ⊥ }
+
+    // Memory is asked for only where the bytes have their checksum behind them.
+    ensures memory { IsErrOf result fault.Memory → (text : List ℕ) × (bytes.now ≡ sealed text) }
 
     // A text of which one byte was changed, in one bit or more, is refused.
     ensures changed { (w : NodeLinks) → IsSound w → DifferInOneByte (text_of w) bytes.now →

@@ -8,7 +8,7 @@ ghost use Rattle.kt_machine.specs.Acts.{stepper};
 ghost use Rattle.kt_node.specs.Managers.{ShowsNode};
 ghost use Rattle.kt_node.specs.Effects.{put_to, rows_told};
 ghost use Rattle.kt_node.specs.Links.{NodeLinks, IsSameNode};
-ghost use Rattle.kt_node.specs.Clusters.{link, step_of, IsFront, IsTurn, IsSpeakable, coming, IsRefusedIn};
+ghost use Rattle.kt_node.specs.Clusters.{link, step_of, IsFront, IsTurn, IsSpeakable, coming, IsRefusedIn, IsSpent, IsSpentAs};
 
 use super::{ClusterFault, ClusterStep, OnWay};
 use crate::node::{Node, Output};
@@ -119,6 +119,9 @@ fn take(
         IfOk result (IsTurn node.old node.new on_way.old.items on_way.new.items y x) }
     ensures refused { (y : NodeState) → ShowsNode node.old.manager y →
         IsRefusedIn y (coming y (Take at from able) (link on_way.old.items from at)) result }
+    ensures spent { (y : NodeState) → ShowsNode node.old.manager y →
+        let es = link on_way.old.items from at in
+        IsSpentAs (IsSpent node.old.clock (coming y (Take at from able) es) es) result }
     ensures room { vec_len on_way.new ≤ vec_len on_way.old }
     ensures capacity { vec_capacity on_way.new ≡ vec_capacity on_way.old }
     ensures err { OnErr result (IsSameNode node.new node.old) }
@@ -150,6 +153,9 @@ fn turn(
     ensures refused { (y : NodeState) → ShowsNode node.old.manager y →
         let x = step_of next.now in
         IsRefusedIn y (coming y x (link on_way.old.items (source_of x) (stepper x))) result }
+    ensures spent { (y : NodeState) → ShowsNode node.old.manager y →
+        let x = step_of next.now in let es = link on_way.old.items (source_of x) (stepper x) in
+        IsSpentAs (IsSpent node.old.clock (coming y x es) es) result }
     ensures room { vec_len on_way.new ≤ vec_len on_way.old }
     ensures capacity { vec_capacity on_way.new ≡ vec_capacity on_way.old }
     ensures err { OnErr result (IsSameNode node.new node.old) }
@@ -181,6 +187,10 @@ pub(super) fn turn_among(
         let x = step_of next.now in let p = stepper x in
         ShowsNode (slice_index_or nodes.old.items p k).manager y →
         IsRefusedIn y (coming y x (link on_way.old.items (source_of x) p)) result }
+    ensures spent { (y : NodeState) (k : NodeLinks) →
+        let x = step_of next.now in let p = stepper x in
+        let es = link on_way.old.items (source_of x) p in let node = slice_index_or nodes.old.items p k in
+        ShowsNode node.manager y → IsSpentAs (IsSpent node.clock (coming y x es) es) result }
     ensures others { (k : NodeLinks) → let p = stepper (step_of next.now) in
         nodes.new.items ≡ slice_set nodes.old.items p (slice_index_or nodes.new.items p k) }
     ensures room { vec_len on_way.new ≤ vec_len on_way.old }

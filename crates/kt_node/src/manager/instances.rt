@@ -18,7 +18,7 @@ ghost use Rattle.kt_system.specs.Shown.{begin_verb};
 ghost use Rattle.kt_node.specs.Managers.{HoldsFor, HasAnswered, ShowsNode, HasBack, IsSameManager, IsTurned, process_of, after_closing};
 ghost use Rattle.kt_node.specs.Turns.{BeginsIn, HearsIn, CanGoOn, CanFollow, named_cause, unwilling_row, joined_row, joined_in, gone_on};
 ghost use Rattle.kt_node.specs.Effects.{IsDone, rows_told};
-ghost use Rattle.kt_node.specs.Faults.{fault_at, IsRefusedAs};
+ghost use Rattle.kt_node.specs.Faults.{fault_at, wants_room, IsRefusedAs};
 
 use super::messages::refusal;
 use super::{Manager, here, is_one};
@@ -288,6 +288,8 @@ impl Manager {
         ensures done { (y : NodeState) (able : Bool) → ShowsNode self.old y →
             IfOk result (λ e. IsDone self.new e (taking y from able (put.Reply inst.now willing))) }
         ensures err { OnErr result (IsSameManager self.new self.old) }
+        ensures memory { (y : NodeState) → ShowsNode self.old y →
+            OnErr result (wants_room y from (put.Reply inst.now willing) ≡ true) }
     {
         if !self.awaits(from, inst) {
             return Ok(Effects::none());
@@ -298,16 +300,22 @@ impl Manager {
         Ok(self.go_on(inst, &action))
     }
 
+    /// How many replies it awaits.
+    fn awaited(&self) -> u32
+        ensures { (y : NodeState) → ShowsNode self.now y → result ≡ y.part.awaited }
+    {
+        match self.process.part() {
+            Some(part) => part.awaited(),
+            None => 0,
+        }
+    }
+
     /// Whether it is in this instance, and awaits a reply of a process.
     fn awaits(&self, from: ProcNo, inst: &InstName) -> bool
         ensures { (y : NodeState) → ShowsNode self.now y → result ≡ awaits y from inst.now }
     {
-        let awaited = match self.process.part() {
-            Some(part) => part.awaited(),
-            None => 0,
-        };
         self.is_in(inst)
-            && awaited != 0
+            && self.awaited() != 0
             && self.process.asked().has(from)
             && !self.answered.has(from)
     }
@@ -348,7 +356,8 @@ impl Manager {
         }
     }
 
-    /// A decision comes: that of its instance closes it, where it comes of who asked it last to join.
+    /// A decision comes: that of its instance closes it, where another began it, all have replied, and it comes of who asked it
+    /// last to join.
     pub(super) fn take_decision(
         &mut self,
         from: ProcNo,
@@ -358,6 +367,8 @@ impl Manager {
         ensures done { (y : NodeState) (able : Bool) → ShowsNode self.old y →
             IfOk result (λ e. IsDone self.new e (taking y from able (put.Decide inst.now commit))) }
         ensures err { OnErr result (IsSameManager self.new self.old) }
+        ensures memory { (y : NodeState) → ShowsNode self.old y →
+            OnErr result (wants_room y from (put.Decide inst.now commit) ≡ true) }
     {
         if !self.heeds(from, inst) {
             return Ok(Effects::none());
@@ -366,7 +377,7 @@ impl Manager {
         Ok(self.close(inst, commit, None))
     }
 
-    /// Whether it is in this instance, and a process asked it last to join this one.
+    /// Whether it is in this instance, which another process began, awaits nobody, and was asked last by this one to join it.
     fn heeds(&self, from: ProcNo, inst: &InstName) -> bool
         ensures { (y : NodeState) → ShowsNode self.now y → result ≡ heeds y from inst.now }
     {
@@ -374,7 +385,7 @@ impl Manager {
             Some(name) => is_one(name, inst),
             None => false,
         };
-        self.is_in(inst) && asked
+        self.is_in(inst) && asked && inst.initiator.get() != self.me.get() && self.awaited() == 0
     }
 
     /// It closes its instance, and tells the decision to those that it asked.

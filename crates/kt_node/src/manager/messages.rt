@@ -1,6 +1,6 @@
 //! Application messages, and failures.
 
-ghost use Rattle.std.specs.Prelude.{◌≡◌, ◌<◌, ◌≤◌, ◌∷◌, true, Bool, Some, None, drop, IfOk, IfSome, IfNone, OnOk, OnErr};
+ghost use Rattle.std.specs.Prelude.{◌≡◌, ◌<◌, ◌≤◌, ◌∷◌, true, Bool, Some, None, drop, IfOk, IfSome, IfNone, OnOk, OnErr, IsErrOf};
 ghost use Rattle.kt_fifo.specs.Channels.{spare_of};
 ghost use Rattle.kt_fifo.specs.declared.parcels.Parcel.TheVariants as parcel;
 ghost use Rattle.kt_tables.specs.Calls.{Speaks};
@@ -12,7 +12,7 @@ ghost use Rattle.kt_node.specs.declared.faults.ManagerFault.TheVariants as fault
 ghost use Rattle.kt_node.specs.Erasing.{erased_parcel};
 ghost use Rattle.kt_node.specs.Managers.{ManagerState, ShowsNode, IsSameManager, no_name};
 ghost use Rattle.kt_node.specs.Effects.{IsDone};
-ghost use Rattle.kt_node.specs.Faults.{fault_at, first_held, held_fault, IsRefusedAs};
+ghost use Rattle.kt_node.specs.Faults.{fault_at, first_held, held_fault, wants_room, wants_memory, IsRefusedAs};
 
 use super::Manager;
 use crate::effects::{Effects, NO_ACTS, Parcels};
@@ -33,6 +33,7 @@ impl Manager {
             OnOk result (is_step y (Send to body) ≡ true) }
         ensures refused { (y : NodeState) → ShowsNode self.old y →
             IsRefusedAs (fault_at y (Send to body)) result }
+        ensures memory { IsErrOf result fault.Memory → ⊥ }
         ensures err { OnErr result (self.new ≡ self.old) }
     {
         self.meet(to)?;
@@ -79,6 +80,8 @@ impl Manager {
             IfOk result (λ e. IsDone self.new e (node_after y (Held from))) }
         ensures refused { (y : NodeState) → ShowsNode self.old y →
             IsRefusedAs (fault_at y (Held from)) result }
+        ensures memory { (y : NodeState) → ShowsNode self.old y →
+            IsErrOf result fault.Memory → wants_memory y (Held from) ≡ true }
         ensures err { OnErr result (IsSameManager self.new self.old) }
     {
         self.meet(from)?;
@@ -115,6 +118,7 @@ impl Manager {
         ensures same { IsSameManager self.new self.old }
         ensures room { OnOk result (self.old.process.up ≡ true →
             1 ≤ spare_of self.new.kept from self.old.me) }
+        ensures memory { OnErr result (self.old.process.up ≡ true) }
     {
         if self.process.is_up() {
             return self.kept.reserve_many(from, self.me, 1);
@@ -155,6 +159,8 @@ impl Manager {
             Speaks ((taking y from able (sent.App label body)).state.calls) →
             IfOk result (λ e. IsDone self.new e (taking y from able (sent.App label body))) }
         ensures err { OnErr result (IsSameManager self.new self.old) }
+        ensures memory { (y : NodeState) → ShowsNode self.old y →
+            OnErr result (wants_room y from (sent.App label body) ≡ true) }
     {
         if self.is_in_rollback() {
             self.held.reserve_many(from, self.me, 1)?;

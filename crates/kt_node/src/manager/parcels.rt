@@ -1,12 +1,13 @@
 //! Any parcel.
 
-ghost use Rattle.std.specs.Prelude.{◌≡◌, IfOk, OnErr};
+ghost use Rattle.std.specs.Prelude.{◌≡◌, true, IfOk, OnErr, IsErrOf};
 ghost use Rattle.kt_node.specs.Nodes.{NodeState, Comes};
 ghost use Rattle.kt_node.specs.NodeSteps.{node_after};
 ghost use Rattle.kt_node.specs.Managers.{ShowsNode, IsSameManager};
 ghost use Rattle.kt_node.specs.Effects.{IsDone};
 ghost use Rattle.kt_node.specs.Links.{IsSpoken};
-ghost use Rattle.kt_node.specs.Faults.{fault_at, IsRefusedAs};
+ghost use Rattle.kt_node.specs.Faults.{fault_at, wants_memory, IsRefusedAs};
+ghost use Rattle.kt_node.specs.declared.faults.ManagerFault.TheVariants as fault;
 
 use super::Manager;
 use super::instances::Ask;
@@ -30,6 +31,8 @@ impl Manager {
             IfOk result (λ e. IsDone self.new e (node_after y (Comes from able parcel.now))) }
         ensures refused { (y : NodeState) → ShowsNode self.old y →
             IsRefusedAs (fault_at y (Comes from able parcel.now)) result }
+        ensures memory { (y : NodeState) → ShowsNode self.old y →
+            IsErrOf result fault.Memory → wants_memory y (Comes from able parcel.now) ≡ true }
         ensures err { OnErr result (IsSameManager self.new self.old) }
     {
         self.meet(from)?;

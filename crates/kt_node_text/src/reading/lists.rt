@@ -1,11 +1,12 @@
 //! What a node holds and keeps, of numbers.
 
-ghost use Rattle.std.specs.Prelude.{◌≡◌, ◌≢◌, ◌<◌, ◌≤◌, ◌++◌, ℕ, List, All, IfOk};
+ghost use Rattle.std.specs.Prelude.{◌≡◌, ◌≢◌, ◌<◌, ◌≤◌, ◌∷◌, ◌++◌, ℕ, List, length, All, IfOk, IsErrOf};
 ghost use Rattle.kt_fifo.specs.Channels.{ChannelLists, channel};
 ghost use Rattle.kt_fifo.specs.declared.parcels.Parcel.{Parcel};
 ghost use Rattle.kt_node_text.specs.Form.{of_parcel, of_lists, counted};
 ghost use Rattle.kt_node_text.specs.Ranges.{IsParcel, AreLists};
 ghost use Rattle.kt_node_text.specs.Reading.{IsRead, IsReadAs};
+ghost use Rattle.kt_node_text.specs.declared.fault.LoadFault.TheVariants as fault;
 
 use crate::fault::LoadFault;
 use crate::numbers::Numbers;
@@ -55,8 +56,10 @@ fn take_parcels(
         numbers.old.rest.now ≡ counted of_parcel xs ++ after →
         IsReadAs (λ _. channel lists.new from to ≡ channel lists.old from to ++ xs)
         after result numbers.new.rest.now }
+    ensures few { (n : ℕ) (after : List ℕ) → length after < n →
+        numbers.old.rest.now ≡ n ∷ after → IsErrOf result fault.Form }
 {
-    let count = numbers.next()?;
+    let count = numbers.count()?;
     for _ in 0..count {
         let parcel = parcel(numbers)?;
         lists.reserve_many(from, to, 1)?;

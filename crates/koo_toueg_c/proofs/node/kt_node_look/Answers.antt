@@ -1,17 +1,19 @@
-use Rattle.std.proofs.Common.{rules, ◌≡◌, ◌∙◌, subst}
+use Rattle.std.proofs.Common.{◌≡◌, ◌∙◌, sym, ap}
 use Rattle.koo_toueg_c.specs.NodeNumbers.{look_status, refusal_status}
 use Rattle.koo_toueg_c.proofs.Loaded.{status_two}
 use Rattle.koo_toueg_c.proofs.node.kt_node_look.Goals as goal
 
+pub returns-in-Ok-NeedsSave-clause-look : goal.returns-in-Ok-NeedsSave-clause-look
+returns-in-Ok-NeedsSave-clause-look c = λ other x meant w y says shown. ap look_status (sym c.in-Ok-NeedsSave.field-0-is) ∙ c.in-Ok-NeedsSave.ensures.look x meant w y says shown
+
 pub returns-in-Ok-Plain-clause-look : goal.returns-in-Ok-Plain-clause-look
-returns-in-Ok-Plain-clause-look c = λ other x meant w y says shown.
-    let status : 1 ≡ look_status c.in-Ok-Plain.field-0 = search rules in
-    status ∙ c.in-Ok-Plain.ensures.look x meant w y says shown
+returns-in-Ok-Plain-clause-look c = λ other x meant w y says shown. ap look_status (sym c.in-Ok-Plain.field-0-is) ∙ c.in-Ok-Plain.ensures.look x meant w y says shown
+
+pub returns-in-Ok-NeedsBody-clause-look : goal.returns-in-Ok-NeedsBody-clause-look
+returns-in-Ok-NeedsBody-clause-look c = λ other x meant w y says shown. ap look_status (sym c.in-Ok-NeedsBody.field-0-is) ∙ c.in-Ok-NeedsBody.ensures.look x meant w y says shown
 
 pub returns-in-Ok-Idle-clause-look : goal.returns-in-Ok-Idle-clause-look
-returns-in-Ok-Idle-clause-look c = λ other x meant w y says shown.
-    let status : 2 ≡ look_status c.in-Ok-Idle.field-0 = search rules in
-    status ∙ c.in-Ok-Idle.ensures.look x meant w y says shown
+returns-in-Ok-Idle-clause-look c = λ other x meant w y says shown. ap look_status (sym c.in-Ok-Idle.field-0-is) ∙ c.in-Ok-Idle.ensures.look x meant w y says shown
 
 pub returns-in-Err-clause-look : goal.returns-in-Err-clause-look
 returns-in-Err-clause-look c = λ other x meant w y says shown.

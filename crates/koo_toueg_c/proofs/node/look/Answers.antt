@@ -20,3 +20,6 @@ returns-in_err-node-clause-refused c =
     if_err c.from_residual.result (λ why. refusal_status why ≡ 2 → (x : Input) → input_meant c.args.numbers.now ≡ Some x → IsLookOf c.args.state.now x 2) (λ why. why ≡ of_load fault)
     (λ why is two x meant w y says shown. absurd (c.in_err-node.ensures.form (ap (λ (f : LoadFault). Err f) (not_read fault why is two)) w says.own says.said))
     c.from_residual.ensures.1
+
+pub returns-clause-node : goal.returns-clause-node
+returns-clause-node c = (c.in_ok-node.node, record { own = c.in_ok-node.ensures.sound; said = c.in_ok-node.ensures.ok })

@@ -1,6 +1,6 @@
 use Rattle.kt_node.proofs.Runs.{nodes_shown, channels_shown}
 use Rattle.kt_node.proofs.RaisedNets.{net_raised}
-use Rattle.kt_node.proofs.RaisedRuns.{asked_from_each, begun_from_each, numbered_from_each, owed_from_each, speaks_from_each, speaks_next_from_each}
+use Rattle.kt_node.proofs.RaisedRuns.{asked_from_each, begun_from_each, heeded_from_each, numbered_from_each, owed_from_each, speaks_from_each, speaks_next_from_each}
 use Rattle.kt_node.proofs.laws.nets_are_runs.Goals as goal
 
 pub returns-clause-nodes : goal.returns-clause-nodes
@@ -29,3 +29,6 @@ returns-clause-owed c = owed_from_each
 
 pub returns-clause-asked : goal.returns-clause-asked
 returns-clause-asked c = asked_from_each
+
+pub returns-clause-heeded : goal.returns-clause-heeded
+returns-clause-heeded c = heeded_from_each

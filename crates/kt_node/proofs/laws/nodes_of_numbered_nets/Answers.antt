@@ -1,4 +1,3 @@
-use Rattle.std.proofs.Common.{refl}
 use Rattle.kt_node.proofs.NearNets.{never_leaps}
 use Rattle.kt_node.proofs.NumberedCalls.{again_call, comes_call, others_stay, own_call}
 use Rattle.kt_node.proofs.laws.nodes_of_numbered_nets.Goals as goal

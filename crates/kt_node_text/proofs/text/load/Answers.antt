@@ -55,3 +55,12 @@ returns-clause-form c = λ wrong w own e.
     let again : c.in_ok-again.again.items ≡ c.in_ok-numbers.numbers.items =
     c.in_ok-again.ensures.numbers ∙ (c.in_ok-node.ensures.ok w own (c.deref.ensures.value ∙ same) ∙ c.deref.ensures.value) in
     false≢true (c.if-eq.ensures ∙ (bytes_eq-Decides _ _).1 (c.as_slice.ensures.value ∙ (again ∙ sym c.as_slice-2.ensures.value)))
+
+pub returns-in_err-numbers-clause-memory : goal.returns-in_err-numbers-clause-memory
+returns-in_err-numbers-clause-memory c = λ wrong. (c.in-Some.text.now, c.in-Some.ensures.some)
+
+pub returns-in_err-node-clause-memory : goal.returns-in_err-node-clause-memory
+returns-in_err-node-clause-memory c = λ wrong. (c.in-Some.text.now, c.in-Some.ensures.some)
+
+pub returns-in_err-again-clause-memory : goal.returns-in_err-again-clause-memory
+returns-in_err-again-clause-memory c = λ wrong. (c.in-Some.text.now, c.in-Some.ensures.some)

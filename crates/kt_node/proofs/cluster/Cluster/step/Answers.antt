@@ -6,9 +6,9 @@ use Rattle.kt_spacetime.specs.declared.named_rows.ClockedRow.{ClockedRow}
 use Rattle.kt_node.specs.declared.cluster.ClusterFault.{ClusterFault}
 use Rattle.kt_node.specs.declared.cluster.OnWay.{OnWay}
 use Rattle.kt_node.specs.declared.node.Output.{Output}
-use Rattle.kt_node.specs.Clusters.{ClusterState, link, step_of, net_after, coming_to, IsRefusedIn, IsRun, IsPutOut, HasNextNumbers}
+use Rattle.kt_node.specs.Clusters.{ClusterState, link, step_of, net_after, coming_to, IsRefusedIn, IsRun, IsSpentIn, IsSpentAs, IsPutOut, HasNextNumbers}
 use Rattle.kt_node.specs.Effects.{put_to, rows_told}
-use Rattle.kt_node.proofs.Clustering.{as_many, not_unknown, refusal, same_err, stays, step_acts, step_numbers, step_runs, step_told}
+use Rattle.kt_node.proofs.Clustering.{as_many, not_unknown, refusal, same_err, spending, stays, step_acts, step_numbers, step_runs, step_told}
 use Rattle.kt_node.proofs.cluster.Cluster.step.Goals as goal
 
 pub invariant_of-self-in_err-output : goal.invariant_of-self-in_err-output
@@ -250,3 +250,39 @@ returns-clause-numbers c = λ k.
     let reached = subst (λ (v : ClusterState). IsRun v c.self.invariant.steps) (sym same) c.self.invariant.reached in
     subst (λ (v : ClusterState). HasNextNumbers (slice_index_or v.nodes (stepper x) k) (slice_index_or nodes (stepper x) k) out) view
     (step_numbers s x nodes after c.carry_out.new.on_way.items c.carry_out.new.rows.items few b out others (λ n first. c.nets_are_runs.ensures.speaks_next n (λ p. first)) c.in_ok-output.ensures.done put told c.self.invariant.steps reached k)
+
+pub returns-clause-spent : goal.returns-clause-spent
+returns-clause-spent c = λ steps h known.
+    let inside = c.self.inside in
+    let before : ClusterState = record { nodes = inside.nodes.items; on_way = inside.on_way.items; rows = inside.rows.items; first = inside.first } in
+    let s : ClusterState = record { nodes = inside.nodes.items; on_way = c.make_room.new.on_way.items; rows = c.make_room.new.rows.items; first = inside.first } in
+    let same : s ≡ before = ap₂ (λ (w : List OnWay) (r : List ClockedRow). record { nodes = inside.nodes.items; on_way = w; rows = r; first = inside.first }) c.in_ok-make_room.ensures.same_on_way c.in_ok-make_room.ensures.same_rows in
+    let view : s ≡ c.args.self.now = same ∙ c.self.view_is in
+    let x = step_of c.args.next.now in
+    let b : stepper x < length s.nodes = search rules in
+    let few : stepper x < 64 = omega (arith, b, c.self.invariant.few) in
+    let nodes = c.turn_among.new.nodes.items in
+    let after = c.turn_among.new.on_way.items in
+    let out = c.in_ok-output.output in
+    let others = c.in_ok-output.ensures.others in
+    let told = spending s x nodes after after s.rows few b (Ok out) c.in_ok-output.ensures.spent steps (subst (λ (v : ClusterState). IsRun v steps) (sym view) h) in
+    subst (λ (v : ClusterState). IsSpentAs (IsSpentIn (net_after v steps) x) (Ok out)) view told
+
+pub returns-in_err-output-clause-spent : goal.returns-in_err-output-clause-spent
+returns-in_err-output-clause-spent c = λ steps h known.
+    let inside = c.self.inside in
+    let before : ClusterState = record { nodes = inside.nodes.items; on_way = inside.on_way.items; rows = inside.rows.items; first = inside.first } in
+    let s : ClusterState = record { nodes = inside.nodes.items; on_way = c.make_room.new.on_way.items; rows = c.make_room.new.rows.items; first = inside.first } in
+    let same : s ≡ before = ap₂ (λ (w : List OnWay) (r : List ClockedRow). record { nodes = inside.nodes.items; on_way = w; rows = r; first = inside.first }) c.in_ok-make_room.ensures.same_on_way c.in_ok-make_room.ensures.same_rows in
+    let view : s ≡ c.args.self.now = same ∙ c.self.view_is in
+    let x = step_of c.args.next.now in
+    let b : stepper x < length s.nodes = search rules in
+    let few : stepper x < 64 = omega (arith, b, c.self.invariant.few) in
+    let nodes = c.turn_among.new.nodes.items in
+    let after = c.turn_among.new.on_way.items in
+    let f = c.in_err-output.field-0.0 in
+    let others = c.in_err-output.ensures.others in
+    let told = spending s x nodes after after s.rows few b {X = Output} (Err f) c.in_err-output.ensures.spent steps (subst (λ (v : ClusterState). IsRun v steps) (sym view) h) in
+    let there = subst (λ (v : ClusterState). IsSpentAs {X = Output} (IsSpentIn (net_after v steps) x) (Err f)) view told in
+    subst (λ (r : Result Output ClusterFault). IsSpentAs (IsSpentIn (net_after c.args.self.now steps) x) r)
+    (sym (same_err c.from_residual-in_err-output.result f c.from_residual-in_err-output.ensures)) there

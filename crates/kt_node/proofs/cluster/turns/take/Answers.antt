@@ -1,15 +1,18 @@
-use Rattle.std.proofs.Common.{◌≡◌, ◌∙◌, false, List, refl, sym, subst}
+use Rattle.std.proofs.Common.{◌≡◌, ◌∙◌, false, List, refl, sym, ap, subst}
 use Rattle.std.specs.Prelude.{◌&&◌, not, slice_index_or, Option}
 use Rattle.std.specs.List.{remove}
 use Rattle.kt_node.specs.Nodes.{Input, Held, Comes, is_in_rollback}
 use Rattle.kt_node.specs.Nets.{has_some}
-use Rattle.kt_node.specs.Clocks.{envelope, front_input}
-use Rattle.kt_node.specs.Clusters.{link}
+use Rattle.kt_protocol.specs.States.{Take}
+use Rattle.kt_node.specs.Clocks.{clock_after, envelope, front_input}
+use Rattle.kt_node.specs.Clusters.{IsSpent, coming, link}
 use Rattle.kt_node.specs.Managers.{ManagerState, ShowsNode}
 use Rattle.kt_node.specs.declared.cluster.OnWay.{OnWay}
+use Rattle.kt_node.specs.declared.node.Output.{Output}
 use Rattle.kt_node.specs.Clusters.{IsFront, IsTaken}
 use Rattle.kt_node.proofs.OnWay.{front_comes}
 use Rattle.kt_node.proofs.Speaking.{is_spoken}
+use Rattle.kt_node.proofs.Spending.{is_spent, not_spent, spent_as, spent_of}
 use Rattle.kt_node.proofs.Turning.{front_input_is, front_turn, held_comes, own_turn, refused_taken}
 use Rattle.kt_node.proofs.cluster.turns.take.Goals as goal
 
@@ -60,3 +63,40 @@ returns-clause-refused c = λ y h.
     let held : (not (is_in_rollback y) && has_some (y.held from)) ≡ false = sym (c.holds_next.ensures y shown) ∙ c.if-holds_next.false in
     let comes = front_input_is (not (is_in_rollback y) && has_some (y.held from)) from c.args.able (link ways from c.args.at) (link (remove ways place) from c.args.at) (envelope x.clock x.parcel) held (front_comes ways from c.args.at place x front is) in
     subst (λ (o : Option Input). IsTaken y o) (sym comes) (c.in_ok-output.ensures.refused y h)
+
+pub returns-in_err-output-clause-spent : goal.returns-in_err-output-clause-spent
+returns-in_err-output-clause-spent c = λ y h.
+    let from = c.args.from in
+    let ways = c.args.on_way.now.items in
+    let place = c.in-Some.place in
+    let x = c.index.result.now in
+    let front = subst (λ (l : List OnWay). IsFront l from c.args.at place) c.deref.ensures.value c.in-Some.ensures.some in
+    let is : x ≡ slice_index_or ways place x = c.index.ensures in
+    let shown = subst (λ (m : ManagerState). ShowsNode m y) (sym c.manager.ensures) h in
+    let held : (not (is_in_rollback y) && has_some (y.held from)) ≡ false = sym (c.holds_next.ensures y shown) ∙ c.if-holds_next.false in
+    let first = front_comes ways from c.args.at place x front is in
+    let came = Comes from c.args.able x.parcel in
+    let es = link ways from c.args.at in
+    let comes = front_input_is (not (is_in_rollback y) && has_some (y.held from)) from c.args.able es (link (remove ways place) from c.args.at) (envelope x.clock x.parcel) held first in
+    let clock = c.args.node.now.clock in
+    let both = is_spent clock x.clock (coming y (Take c.args.at from c.args.able) es) came es comes (ap (clock_after clock came) first) in
+    spent_as _ c.in_err-output.field-0.0 c.from_residual-in_err-output.result c.from_residual-in_err-output.ensures
+    (spent_of Output _ (IsSpent clock (coming y (Take c.args.at from c.args.able) es) es) c.in_err-output.field-0.0 c.in_err-output.ensures.spent both.0 both.1)
+
+pub returns-clause-spent : goal.returns-clause-spent
+returns-clause-spent c = λ y h.
+    let from = c.args.from in
+    let ways = c.args.on_way.now.items in
+    let place = c.in-Some.place in
+    let x = c.index.result.now in
+    let front = subst (λ (l : List OnWay). IsFront l from c.args.at place) c.deref.ensures.value c.in-Some.ensures.some in
+    let is : x ≡ slice_index_or ways place x = c.index.ensures in
+    let shown = subst (λ (m : ManagerState). ShowsNode m y) (sym c.manager.ensures) h in
+    let held : (not (is_in_rollback y) && has_some (y.held from)) ≡ false = sym (c.holds_next.ensures y shown) ∙ c.if-holds_next.false in
+    let first = front_comes ways from c.args.at place x front is in
+    let came = Comes from c.args.able x.parcel in
+    let es = link ways from c.args.at in
+    let comes = front_input_is (not (is_in_rollback y) && has_some (y.held from)) from c.args.able es (link (remove ways place) from c.args.at) (envelope x.clock x.parcel) held first in
+    let clock = c.args.node.now.clock in
+    let both = is_spent clock x.clock (coming y (Take c.args.at from c.args.able) es) came es comes (ap (clock_after clock came) first) in
+    not_spent _ (IsSpent clock (coming y (Take c.args.at from c.args.able) es) es) c.in_ok-output.output c.in_ok-output.ensures.spent both.1
