@@ -30,24 +30,24 @@ class Service:
 
     def step(self, what):
         """Makes a step, and what has to follow it. What it puts stands in the outbox by then, and may go out."""
-        saved = self.balance
-        if saved is None and self.node.look(what):
-            what = what._replace(able=False)
-        output = self.node.step(what)
-        if output is None:
-            return
-        for act in output.acts:
-            match act.kind:
-                case "apply" if self.balance is not None: self.balance += act.body
-                case "keep": self.tentative = saved
-                case "promote": self.permanent = self.tentative
-                case "restore": self.balance = self.permanent
-        self.part += b"".join(output.rows)
-        self.outbox += [(to, bytes(parcel)) for to, parcel in output.parcels]
-        self.store()
-        self.busy = output.busy
-        if output.held is not None:
-            self.step(Redeliver(output.held))
+        while what is not None:
+            saved = self.balance
+            if saved is None and self.node.look(what):
+                what = what._replace(able=False)
+            output = self.node.step(what)
+            if output is None:
+                return
+            for act in output.acts:
+                match act.kind:
+                    case "apply" if self.balance is not None: self.balance += act.body
+                    case "keep": self.tentative = saved
+                    case "promote": self.permanent = self.tentative
+                    case "restore": self.balance = self.permanent
+            self.part += b"".join(output.rows)
+            self.outbox += [(to, bytes(parcel)) for to, parcel in output.parcels]
+            self.store()
+            self.busy = output.busy
+            what = None if output.held is None else Redeliver(output.held)
 
     def store(self):
         """Makes all of it durable, or ends the program: its node is ahead of the disk."""

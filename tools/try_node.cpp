@@ -7,7 +7,7 @@
 // or are a node; and with an input of drawn numbers. Each state is a block of its own, just so long, for a tool that watches memory.
 //
 // One process of a run is no node and lies: it replies without being asked, decides without having asked, and asks for instances that
-// nobody began. That changes nothing.
+// its receiver did not begin, or that are of no process. That changes nothing.
 #include "koo_toueg.hpp"
 
 #include <cstdio>

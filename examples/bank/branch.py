@@ -3,8 +3,9 @@
 usage: branch.py ME COUNT FOLDER PORT
 
 Branch P listens on port PORT + P of this machine. Commands are lines of the standard input: `pay TO AMOUNT`, `checkpoint`, and `end`
-after the last one. It prints `up` once its account is back, and `quiet` once nothing is left to do. It ends with 74 where its disk
-fails, and with 75 where its folder has another owner; a line on the standard error says so.
+after the last one. It prints `up` once its account is back, and `quiet` once nothing is left to do. It ends at the end of its input, and
+what others have not taken by then goes out when it is started again. It ends with 74 where its disk fails, and with 75 where its folder
+has another owner; a line on the standard error says so.
 """
 import asyncio
 import collections
@@ -13,6 +14,7 @@ import json
 import os
 import pathlib
 import random
+import stat
 import sys
 import zlib
 
@@ -43,6 +45,17 @@ async def read_frame(reader, size):
 def greeting(sender, receiver):
     """What a branch says first on a link to another one."""
     return b"bank" + bytes([sender, receiver])
+
+
+async def standard_input():
+    """The lines of the standard input as they come. A file, /dev/null and a closed input never wait, and are read at once."""
+    lines, mode = asyncio.StreamReader(), os.fstat(0).st_mode if sys.stdin else 0
+    if stat.S_ISFIFO(mode) or stat.S_ISSOCK(mode) or sys.stdin and sys.stdin.isatty():
+        await asyncio.get_running_loop().connect_read_pipe(lambda: asyncio.StreamReaderProtocol(lines), sys.stdin)
+    else:
+        lines.feed_data(sys.stdin.buffer.read() if sys.stdin else b"")
+        lines.feed_eof()
+    return lines
 
 
 def give_up(status, why):
@@ -260,9 +273,7 @@ class Branch:
 
     async def obey(self, group):
         """Does what the standard input says, to its end."""
-        commands = asyncio.StreamReader()
-        await asyncio.get_running_loop().connect_read_pipe(lambda: asyncio.StreamReaderProtocol(commands), sys.stdin)
-        async for line in commands:
+        async for line in await standard_input():
             word, *numbers = line.decode().split()
             if word == "pay":
                 self.waiting.append(tuple(map(int, numbers)))

@@ -1,4 +1,5 @@
--- Sends by which who comes back knows what was taken of it: one way to find them, for code.
+-- Sends by which who comes back knows what was taken of it: one way to find them, for code. Since it is away until then, its memory
+-- is its disk's.
 use Rattle.std.specs.Prelude.{ℕ, ℤ, zero, suc, pos, ◌+◌, ◌-◌, ◌==◌, ◌||◌, nat_lt, if◌then◌else◌, Bool, false, Option, Some, None, unwrap_or, List, [], ◌∷◌, max, length, drop}
 use Rattle.kt_node.specs.declared.parcels.NodeParcel.{NodeParcel}
 use Rattle.kt_node.specs.declared.parcels.NodeParcel.TheVariants.{App}
@@ -26,7 +27,7 @@ last_label (App l body ∷ xs) = max l (last_label xs)
 last_label (_ ∷ xs) = last_label xs
 
 -- of the first n processes: the greatest label that one told; who took the message with this label, and its body; another
--- one than p who took none with a greater label
+-- one than p who took none with a greater label, or 0 where there is none
 abbrev pub last_told : ℕ → (ℕ → List NodeParcel) → ℕ
 last_told zero lists = 0
 last_told (suc q) lists = max (last_label (lists q)) (last_told q lists)
@@ -43,7 +44,8 @@ abbrev pub filled_by : ℕ → ℕ → ℕ → (ℕ → List NodeParcel) → ℕ
 filled_by zero p label lists = 0
 filled_by (suc q) p label lists = if q == p || has_above label (lists q) then filled_by q p label lists else q
 
--- so many sends after the label `used`: each message to who took it, and for a label that nobody took a message that says nothing
+-- so many sends after the label `used`: each message to who took it, and for a label that nobody took a message that says nothing.
+-- Its body is 0; that no object hears of it is left to the host. What was sent with such a label is gone.
 abbrev pub sends_after : ℕ → ℕ → ℕ → ℕ → (ℕ → List NodeParcel) → List (ℕ × ℤ)
 sends_after zero n p used lists = []
 sends_after (suc count) n p used lists =

@@ -23,7 +23,8 @@ use Rattle.kt_node.specs.Nets.{opening_net, has_some}
 use Rattle.kt_node.specs.Clocks.{Envelope, envelope, clocked_row, front_input, input_at, clock_after}
 use Rattle.kt_kills.specs.Writing.{is_protocol}
 
--- What a process has, in memory or on its disk. A parcel's number is its place in `put`, and in `took`, counted from 1.
+-- What a process has, in memory or on its disk. A parcel's number is its place in `put`, and in `took`, counted from 1. Nothing is
+-- forgotten here: what a host may forget follows from the laws.
 pub record Holdings : Type 0 where
   -- its node, the clock of its last step, and its rows
   pub node : NodeState
@@ -34,7 +35,7 @@ pub record Holdings : Type 0 where
   pub took : ℕ → List Envelope
 
 pub record KilledNet : Type 0 where
-  -- what a process has in memory, and what it has where it is killed now
+  -- what a process has in memory, and on its disk: what it has again once it is killed
   pub memory : ℕ → Holdings
   pub disk : ℕ → Holdings
   -- whether it was killed and is not back; how often it came back, as all others were told then
@@ -44,8 +45,9 @@ pub record KilledNet : Type 0 where
   pub sent : ℕ → ℕ → ℕ → List Envelope
 
 -- What happens. A process makes a step at which no parcel comes: a command, a failure, the first message that it holds of
--- another one. A process is brought, of another one and a life of its, the parcel with a number; the Boolean says whether
--- its object can be saved. A process writes all that it has. It is killed. It comes back, and first sends these again.
+-- another one. `Brought p q able life number`: p is brought the parcel of q with this number, sent in this life of q; the Boolean
+-- says whether p's object can be saved. A process writes all that it has. It is killed. It comes back, and first sends these
+-- again: to whom, and the body.
 pub data KillEvent : Type 0 where
   Does : ProtocolStep → KillEvent
   Brought : ℕ → ℕ → Bool → ℕ → ℕ → KillEvent
@@ -78,7 +80,7 @@ having w p h = record w {
 abbrev pub written : KilledNet → ℕ → KilledNet
 written w p = record w { disk = at_one p (w.memory p) w.disk }
 
--- p makes a step, if it is there: a step of an instance is written before anything of it is sent
+-- p makes a step, if it is not away: a step of an instance is written before anything of it is sent
 abbrev pub stepping : KilledNet → ℕ → List Envelope → Option Input → KilledNet
 stepping w p es None = w
 stepping w p es (Some i) =
@@ -86,15 +88,15 @@ stepping w p es (Some i) =
     else if is_protocol (node_after (w.memory p).node i) then written (having w p (having_done p (w.memory p) es i)) p
     else having w p (having_done p (w.memory p) es i)
 
--- what p is brought of q, if it takes it: of a process that is there, of its last life, and next by its number; and nothing
--- that it holds comes first
+-- what p is brought of q, if it takes it: q is one of the processes, away or not, the life is its last one, and the number is the
+-- next; and nothing that p holds of q comes first
 abbrev pub brought : KilledNet → ℕ → ℕ → ℕ → ℕ → List Envelope
 brought w p q life number = let h = w.memory p in
     if not (is_in_rollback h.node) && has_some (h.node.held q) then []
     else if nat_lt q h.node.processes && (life == w.life q && number == length (h.took q) + 1) then take 1 (drop (length (h.took q)) (w.sent q life p))
     else []
 
--- p sends these by plain sends, one after another
+-- p sends these by plain sends, one after another; one that it may not make now, as in an instance, is left out
 abbrev pub sending_one : ℕ → Holdings → Option Input → Holdings
 sending_one p h None = h
 sending_one p h (Some i) = having_done p h [] i
@@ -103,7 +105,8 @@ abbrev pub sending_again : ℕ → Holdings → List (ℕ × ℤ) → Holdings
 sending_again p h [] = h
 sending_again p h (x ∷ xs) = sending_again p (sending_one p h (input_at h.node (protocol.Send p x.0 x.1) [])) xs
 
--- who comes back begins a life, and sends under it what its disk has put and what it sends again
+-- Who comes back begins a life, and sends under it what its disk has put and what it sends again. These sends are not written by
+-- that: who is killed again comes back from the same disk, in one more life.
 abbrev pub coming_back : KilledNet → ℕ → List (ℕ × ℤ) → KilledNet
 coming_back w p sends = having (record w { away = at_one p false w.away; life = at_one p (w.life p + 1) w.life }) p (sending_again p (w.memory p) sends)
 
@@ -118,7 +121,7 @@ abbrev pub killed_run : KilledNet → List KillEvent → KilledNet
 killed_run w [] = w
 killed_run w (e ∷ es) = killed_run (happens w e) es
 
--- n processes that have done nothing, whose labels come after this one
+-- n processes that have done nothing, and have written that; the labels of all come after this one
 abbrev pub opening_holdings : ℕ → ℕ → ℕ → Holdings
 opening_holdings n first p = record { node = (opening_net n first).nodes p; clock = 0; rows = []; put = λ q. []; took = λ q. [] }
 

@@ -1,4 +1,5 @@
--- What the objects of killed nets have: none after a kill, until it is restored.
+-- What the objects of killed nets have: none after a kill, until it is restored. The node is told of no failure: it stays up, and
+-- what it receives meanwhile is in its history alone. Who restores, and when, is left to the host.
 use Rattle.std.specs.Prelude.{◌≡◌, ◌⊎◌, ℕ, false, if◌then◌else◌, Option, Some, None, List, [], ◌∷◌, ◌++◌, fold}
 use Rattle.kt_meaning.specs.Past.{at_one}
 use Rattle.kt_machine.specs.Acts.{stepper}
@@ -11,7 +12,8 @@ use Rattle.kt_node.specs.Clocks.{input_at, front_input}
 use Rattle.kt_kills.specs.Writing.{is_protocol}
 use Rattle.kt_kills.specs.KilledNets.{KilledNet, KillEvent, Does, Brought, Writes, Killed, Back, brought, happens}
 
--- an object's live history, none where it is lost, and what was kept of it last and what was made permanent, none where nothing was
+-- an object's live history, none where it is lost, and what was kept of it last and what was made permanent; keeping a lost object
+-- keeps none, and at the opening both are empty histories
 pub record Object : Type 0 where
   pub live : Option (List Call)
   pub tentative : Option (List Call)

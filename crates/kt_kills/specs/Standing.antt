@@ -15,7 +15,7 @@ use Rattle.kt_kills.specs.Starts.{parcels, IsFront, AreRight}
 abbrev pub killed_after : ℕ → ℕ → List KillEvent → KilledNet
 killed_after n first es = killed_run (opening_killed n first) es
 
--- each start among them is right
+-- each process that comes back among these events does it as it has to
 abbrev pub StartRight : ℕ → ℕ → List KillEvent → Type 0
 StartRight n first es = AreRight (opening_killed n first) es
 
@@ -44,7 +44,7 @@ pub record IsNet (have : ℕ → Holdings) (net : Net) : Type 0 where
   pub rows : (p : ℕ) → without_clocks (have p).rows ≡ rows_by p net.rows
   pub channels : (p q : ℕ) → parcels ((have p).put q) ≡ parcels ((have q).took p) ++ net.channel p q
 
--- what is written stands in what a process has
+-- what was written, h, stands in what a process has, g
 pub record StandsIn (h g : Holdings) : Type 0 where
   pub rows : IsFront h.rows g.rows
   pub put : (q : ℕ) → IsFront (h.put q) (g.put q)

@@ -75,12 +75,12 @@ pub fn nothing_acknowledged_is_lost()
         StartRight n first (es ++ more) →
         StandsIn ((killed_after n first es).disk p) ((killed_after n first (es ++ more)).memory p) }
 
-    // Whatever a process that is back has put, and its receiver has not taken, can still come.
+    // Where all are back, whatever a process has put, and its receiver has not taken, can still come.
     ensures comes { (n first : ℕ) (es : List KillEvent) (p q : ℕ) → StartRight n first es →
         let w = killed_after n first es in AreAllBack w →
         w.sent p (w.life p) q ≡ (w.memory p).put q }
 
-    // What was taken of it is a front of what it has put: each parcel once, and in order.
+    // And what was taken of it is a front of what it has put: each parcel once, and in order.
     ensures once { (n first : ℕ) (es : List KillEvent) (p q : ℕ) → StartRight n first es →
         let w = killed_after n first es in AreAllBack w →
         IsFront (parcels ((w.memory q).took p)) (parcels ((w.memory p).put q)) }
