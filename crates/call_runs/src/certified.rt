@@ -2,9 +2,10 @@
 
 use crate::cases::Case;
 use crate::faults::{refused, value_of};
+use crate::plain::show_answers;
 use crate::texts::{Form, Text, show_written};
 use crate::walks::feed;
-use kt_certify::certify_stream;
+use kt_certify::{StreamFault, certify_stream};
 use kt_log_text::read_csv;
 use kt_plan::Plan;
 use kt_spacetime::SpaceTime;
@@ -42,8 +43,20 @@ fn show_legal<R: Print + AllocGlobal>(
     show_written(rt, text, b"")
 }
 
+// Shows why a log has no certificates, at how many calls a reader may fail even then, and what other readers say of it.
+fn show_refused<R: Print + AllocGlobal>(
+    rt: &R,
+    title: &str,
+    text: &Text,
+    fault: StreamFault,
+) -> io::Result<()> {
+    let reads = text.count_read_faults(rt.alloc());
+    println!(rt; "{title}: {fault}; {reads} reads may fail")?;
+    show_answers(rt, text.bytes)
+}
+
 /// Shows of a stored log how many certificates it has as it is read, what a walk of it holds, and its report as of a run of
-/// a plan; or why it has none, and at how many calls a reader may fail even then.
+/// a plan; or why it has none.
 pub(crate) fn show_certified<R: Print + AllocGlobal>(
     rt: &R,
     plan: &Plan,
@@ -54,9 +67,6 @@ pub(crate) fn show_certified<R: Print + AllocGlobal>(
     let text = Text { form, bytes };
     match certify_stream(rt.alloc(), bytes) {
         Ok(list) => show_legal(rt, title, &text, list.len()),
-        Err(fault) => {
-            let reads = text.count_read_faults(rt.alloc());
-            println!(rt; "{title}: {fault}; {reads} reads may fail")
-        }
+        Err(fault) => show_refused(rt, title, &text, fault),
     }
 }

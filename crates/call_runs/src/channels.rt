@@ -4,7 +4,7 @@ ghost use Rattle.std.specs.Prelude.{◌≡◌};
 
 use crate::faults::{refused, value_of};
 use crate::limits::label_of;
-use kt_base::{InstNo, Kind, MsgNo, ProcNo};
+use kt_base::{InstNo, Kind, MsgNo, ProcNo, ProcSet};
 use kt_fifo::{Channels, Parcel};
 use std::io;
 
@@ -29,7 +29,7 @@ fn put(channels: &mut Channels, parcel: Parcel) -> io::Result<()>
     ensures { channels.new.processes ≡ 2 }
 {
     let (from, to) = (ProcNo::nth(0), ProcNo::nth(1));
-    value_of(channels.reserve_many(from, to, 1))?;
+    value_of(channels.reserve(from, ProcSet::empty().with(to)))?;
     if channels.spare(from, to) == 0 {
         return refused();
     }
@@ -48,10 +48,10 @@ fn show_left<R: Print>(rt: &R, channels: &mut Channels) -> io::Result<()>
     put(channels, message(5)?)?;
     channels.drop_above(from, to, label_of(3)?);
     let has_room = channels.reserve_many(from, to, usize::MAX).is_ok();
-    let count = channels.len(from, to);
+    let (count, back) = (channels.len(from, to), channels.len(to, from));
     let (first, second) = (channels.pop(from, to), channels.pop(from, to));
     println!(rt;
-        "parcels above a label are taken out; with room for 2^64 more: {has_room}\n  {count}: {first:?}, {second:?}"
+        "parcels above a label are taken out; with room for 2^64 more: {has_room}\n  {count}, and {back} the other way: {first:?}, {second:?}"
     )
 }
 

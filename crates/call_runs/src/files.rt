@@ -2,10 +2,13 @@
 
 use crate::cases::{Case, next_case};
 use crate::certified::show_certified;
-use crate::faults::refused;
+use crate::faults::{refused, value_of};
 use crate::meetings::show_meetings;
 use crate::merging::{show_merge_fault, show_merged};
+use crate::node_texts::show_node_texts;
+use crate::plays::show_plays;
 use crate::runs::show_run;
+use crate::tables::show_tables;
 use crate::texts::{Form, Text, show_count, show_text};
 use crate::told::told;
 use kt_chain::{CertTextFault, read_certs};
@@ -14,37 +17,6 @@ use kt_plan::Plan;
 use kt_scenario::{ScenarioFault, StepsFault, parse, parse_steps};
 use std::alloc::Global;
 use std::{fs, io};
-
-// What the texts of a file are.
-#[derive(Clone, Copy)]
-enum Kind {
-    Logs,
-    Certificates,
-    Certified,
-    Scenarios,
-    Steps,
-    Merged,
-    MergeFaults,
-    Meetings,
-    Runs,
-}
-
-// The files in the order in which they are shown; whether their texts are told by lines.
-static FILES: [(&str, Kind, bool); 13] = [
-    ("logs", Kind::Logs, false),
-    ("long-logs", Kind::Logs, true),
-    ("certificates", Kind::Certificates, false),
-    ("long-certificates", Kind::Certificates, true),
-    ("certified", Kind::Certified, false),
-    ("scenarios", Kind::Scenarios, false),
-    ("long-scenarios", Kind::Scenarios, true),
-    ("steps", Kind::Steps, false),
-    ("long-steps", Kind::Steps, true),
-    ("merged", Kind::Merged, false),
-    ("merge-faults", Kind::MergeFaults, false),
-    ("meetings", Kind::Meetings, false),
-    ("node-steps", Kind::Runs, false),
-];
 
 fn count_rows(alloc: Global, text: &[u8]) -> Result<usize, LogFault> {
     Ok(read_csv(alloc, text)?.rows().len())
@@ -64,33 +36,37 @@ fn count_steps(alloc: Global, plan: &Plan, text: &[u8]) -> Result<usize, StepsFa
     Ok(parse_steps(alloc, text, plan)?.len())
 }
 
+// Shows a case of the file with this name.
 fn show_case<R: Print + AllocGlobal>(
     rt: &R,
     plan: &Plan,
-    kind: Kind,
+    file: &str,
     case: &Case,
 ) -> io::Result<()> {
-    let (alloc, title, text) = (rt.alloc(), case.title, case.text);
-    match kind {
-        Kind::Logs => {
-            let (form, bytes) = (Form::Log, text);
-            show_text(rt, title, &Text { form, bytes }, count_rows(alloc, text))
+    let (alloc, title, bytes) = (rt.alloc(), case.title, case.text);
+    match file {
+        "logs" => {
+            let form = Form::Log;
+            show_text(rt, title, &Text { form, bytes }, count_rows(alloc, bytes))
         }
-        Kind::Certificates => {
-            let (form, bytes) = (Form::Certificates, text);
-            let count = count_certificates(alloc, text);
+        "certificates" => {
+            let (form, count) = (Form::Certificates, count_certificates(alloc, bytes));
             show_text(rt, title, &Text { form, bytes }, count)
         }
-        Kind::Certified => show_certified(rt, plan, case),
-        Kind::Scenarios => {
-            let count = count_commands(alloc, text);
+        "scenarios" => {
+            let count = count_commands(alloc, bytes);
             show_count(rt, title, "objects and commands", count)
         }
-        Kind::Steps => show_count(rt, title, "steps", count_steps(alloc, plan, text)),
-        Kind::Merged => show_merged(rt, case),
-        Kind::MergeFaults => show_merge_fault(rt, case),
-        Kind::Meetings => show_meetings(rt, case),
-        Kind::Runs => show_run(rt, case),
+        "steps" => show_count(rt, title, "steps", count_steps(alloc, plan, bytes)),
+        "certified" => show_certified(rt, plan, case),
+        "merged" => show_merged(rt, case),
+        "merge-faults" => show_merge_fault(rt, case),
+        "meetings" => show_meetings(rt, case),
+        "node-steps" => show_run(rt, case),
+        "node-texts" => show_node_texts(rt, case),
+        "tables" => show_tables(rt, case),
+        "plays" => show_plays(rt, case),
+        _ => refused(),
     }
 }
 
@@ -98,20 +74,19 @@ fn show_case<R: Print + AllocGlobal>(
 fn show_told<R: Print + AllocGlobal>(
     rt: &R,
     plan: &Plan,
-    kind: Kind,
+    file: &str,
     case: &Case,
 ) -> io::Result<()> {
     let text = told(rt.alloc(), case.text)?;
     let (title, text) = (case.title, text.as_slice());
-    show_case(rt, plan, kind, &Case { title, text })
+    show_case(rt, plan, file, &Case { title, text })
 }
 
-// Shows each case of a file.
+// Shows each case of the file with this name; `long-` before it says that the texts are told by lines.
 fn show_cases<R: Print + AllocGlobal>(
     rt: &R,
     plan: &Plan,
-    kind: Kind,
-    is_told: bool,
+    name: &str,
     bytes: &[u8],
 ) -> io::Result<()> {
     let mut left = bytes;
@@ -119,10 +94,9 @@ fn show_cases<R: Print + AllocGlobal>(
         let Some((case, behind)) = next_case(left) else {
             return refused();
         };
-        if is_told {
-            show_told(rt, plan, kind, &case)?;
-        } else {
-            show_case(rt, plan, kind, &case)?;
+        match name.strip_prefix("long-") {
+            Some(file) => show_told(rt, plan, file, &case)?,
+            None => show_case(rt, plan, name, &case)?,
         }
         left = behind;
         if left.is_empty() {
@@ -132,23 +106,23 @@ fn show_cases<R: Print + AllocGlobal>(
     Ok(())
 }
 
-fn show_file(rt: &HostRuntime, plan: &Plan, name: &str, kind: Kind, told: bool) -> io::Result<()> {
+fn show_file(rt: &HostRuntime, plan: &Plan, name: &str) -> io::Result<()> {
     let bytes = fs::read(rt, name)?;
-    show_cases(rt, plan, kind, told, bytes.as_slice())
+    show_cases(rt, plan, name, bytes.as_slice())
 }
 
-fn show_each(rt: &HostRuntime, plan: &Plan) -> io::Result<()> {
-    for (name, kind, is_told) in &FILES {
-        show_file(rt, plan, name, *kind, *is_told)?;
+fn show_each(rt: &HostRuntime, plan: &Plan, names: &[u8]) -> io::Result<()> {
+    for name in value_of(std::str::from_utf8(names))?.lines() {
+        show_file(rt, plan, name)?;
     }
     Ok(())
 }
 
-/// Shows the cases of each file.
+/// Shows the cases of each file that `files` names.
 pub(crate) fn show_files(rt: &HostRuntime) -> io::Result<()> {
-    let text = fs::read(rt, "plan")?;
+    let (names, text) = (fs::read(rt, "files")?, fs::read(rt, "plan")?);
     match parse(rt.alloc(), text.as_slice()) {
-        Ok(plan) => show_each(rt, &plan),
+        Ok(plan) => show_each(rt, &plan, names.as_slice()),
         Err(_) => refused(),
     }
 }

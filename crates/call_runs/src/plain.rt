@@ -1,9 +1,11 @@
-//! The plain reader, of a log of 2^20 rows: that no row and no cut takes time for each row of the log.
+//! The plain reader: that no row and no cut of 2^20 rows takes time for each row; and, beside the checker, of stored logs.
 
 use crate::faults::value_of;
 use crate::walks::receive;
 use kt_base::ProcNo;
+use kt_checker::{check, check_stream};
 use kt_histories::{Histories, legal};
+use kt_log_text::read_csv;
 use kt_rules::Cut;
 use kt_spacetime::SpaceTime;
 use std::io;
@@ -41,4 +43,13 @@ pub(crate) fn show_ring<R: Print + AllocGlobal>(rt: &R, log: &mut SpaceTime) -> 
     show_judged(rt, log)?;
     value_of(receive(log, ProcNo::nth(1), ProcNo::nth(0), 1, 1))?;
     show_judged(rt, log)
+}
+
+/// Shows what the plain reader says of a stored log, and what both calls of the checker say of it without certificates.
+pub(crate) fn show_answers<R: Print + AllocGlobal>(rt: &R, text: &[u8]) -> io::Result<()> {
+    let log = value_of(read_csv(rt.alloc(), text))?;
+    show_judged(rt, &log)?;
+    let verdict = value_of(check(rt.alloc(), &log, &[]))?;
+    let streamed = value_of(check_stream(rt.alloc(), text, &[]))?;
+    println!(rt; "  checked: {verdict}, as a text: {streamed}")
 }

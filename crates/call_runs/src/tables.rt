@@ -1,76 +1,97 @@
-//! Label tables of two processes and of 64: how many labels they keep, and how many processes are asked.
+//! Label tables, by stored calls.
+//!
+//! The first line of a case says how many processes there are. Each other line says a call, with a process, or `all` for each in
+//! turn, and a label, where it has them. Of a call that a process answers, or that may not be made, it is shown of how many.
 
 ghost use Rattle.std.specs.Prelude.{◌≤◌, ◌<◌, ◌↔◌, IsTrue};
 
+use crate::cases::Case;
 use crate::faults::{refused, value_of};
 use crate::limits::label_of;
-use kt_base::ProcNo;
+use kt_base::{Label, ProcNo};
 use kt_tables::Tables;
 use std::io;
 
-// Whether a process is one of those of the tables.
-fn is_there(tables: &Tables, p: ProcNo) -> bool
+/// Whether a process is one of those of the tables.
+pub(crate) fn is_there(tables: &Tables, p: ProcNo) -> bool
     ensures { IsTrue result ↔ (p < tables.now.processes) }
 {
     p.index() < tables.processes()
 }
 
-// Notes a message to a process and one from it, with this label.
-fn note(tables: &mut Tables, p: ProcNo, number: u64) -> io::Result<()> {
-    let label = label_of(number)?;
-    if !is_there(tables, p) || !tables.can_send(p, label) {
-        return refused();
+// Makes a call of no process, where that may be; whether it is made.
+fn turn(tables: &mut Tables, call: &str) -> bool {
+    match (call, tables.is_tentative()) {
+        ("on_tentative", false) => tables.on_tentative(),
+        ("on_commit", true) => tables.on_commit(),
+        ("on_abort", true) => tables.on_abort(),
+        ("on_rollback", false) => tables.on_rollback(),
+        _ => return false,
     }
-    tables.sent(p, label);
-    if !is_there(tables, p) || !tables.can_receive(p, label) {
-        return refused();
-    }
-    tables.received(p, label);
-    Ok(())
+    true
 }
 
-// Takes a tentative checkpoint, and commits or undoes it; how many labels are kept then.
-fn decide(tables: &mut Tables, commit: bool) -> io::Result<usize> {
-    if tables.is_tentative() {
-        return refused();
+/// Makes a call with a process and a label, where that may be; what it answers, or whether it is made.
+pub(crate) fn answer(tables: &mut Tables, call: &str, p: ProcNo, label: Label) -> bool {
+    if !is_there(tables, p) {
+        return false;
     }
-    tables.on_tentative();
-    if commit {
-        tables.on_commit();
-    } else {
-        tables.on_abort();
+    match call {
+        "sent" if tables.can_send(p, label) => tables.sent(p, label),
+        "received" if tables.can_receive(p, label) => tables.received(p, label),
+        "must_take" => return tables.must_take(p, label),
+        "must_roll" => return tables.must_roll(p, label),
+        _ => return turn(tables, call),
     }
-    Ok(tables.kept())
+    true
 }
 
-// Shows how many labels so many processes keep of a message to each and from each, and how many of them are asked.
-fn show<R: Print>(rt: &R, tables: &mut Tables, processes: u8) -> io::Result<()>
-    requires { processes ≤ 64 }
-{
-    for number in 0..processes {
-        note(tables, ProcNo::nth(number), 1)?;
+// Makes the call of a line, of each process in turn where it says so; of how many the answer is yes.
+fn count_of(tables: &mut Tables, line: &str) -> io::Result<u32> {
+    let mut words = line.split(' ');
+    let (call, peer) = (words.next().unwrap_or(""), words.next().unwrap_or(""));
+    let label = label_of(words.next().unwrap_or("0").parse().unwrap_or(0))?;
+    let mut count: u32 = 0;
+    for number in 0..ProcNo::COUNT {
+        let p = ProcNo::nth(number);
+        let is_meant = peer == "all" || peer.parse().unwrap_or(0) == number;
+        count = count.saturating_add(u32::from(is_meant && answer(tables, call, p, label)));
     }
-    let kept = tables.kept();
-    let takes = value_of(tables.ckpt_cohort())?.len();
-    let rolls = value_of(tables.roll_cohort())?.len();
-    let undone = decide(tables, false)?;
-    let committed = decide(tables, true)?;
-    println!(rt;
-        "label tables of {processes} processes: kept {kept}, asked {takes} and {rolls}, undone {undone}, committed {committed}"
-    )
+    Ok(count)
 }
 
-fn show_fresh<R: Print + AllocGlobal>(rt: &R, processes: u8) -> io::Result<()>
+// Makes the call of a line, and shows the answer.
+fn show_call<R: Print>(rt: &R, tables: &mut Tables, line: &str) -> io::Result<()> {
+    match line {
+        "kept" => println!(rt; "  {line}: {}", tables.kept()),
+        "ckpt_cohort" => println!(rt; "  {line}: {:?}", value_of(tables.ckpt_cohort())?),
+        "roll_cohort" => println!(rt; "  {line}: {:?}", value_of(tables.roll_cohort())?),
+        _ => println!(rt; "  {line}: {}", count_of(tables, line)?),
+    }
+}
+
+// Makes calls of tables of so many processes.
+fn show_calls<R: Print + AllocGlobal>(rt: &R, processes: u8, lines: &str) -> io::Result<()>
     requires { processes ≤ 64 }
 {
     match Tables::new(rt.alloc(), usize::from(processes)) {
-        Ok(mut tables) => show(rt, &mut tables, processes),
+        Ok(mut tables) => {
+            for line in lines.lines() {
+                show_call(rt, &mut tables, line)?;
+            }
+            Ok(())
+        }
         Err(_) => refused(),
     }
 }
 
-/// Shows label tables of two processes, and of 64.
-pub(crate) fn show_tables<R: Print + AllocGlobal>(rt: &R) -> io::Result<()> {
-    show_fresh(rt, 2)?;
-    show_fresh(rt, 64)
+/// Shows what tables answer to the calls of a case.
+pub(crate) fn show_tables<R: Print + AllocGlobal>(rt: &R, case: &Case) -> io::Result<()> {
+    println!(rt; "{}", case.title)?;
+    let text = value_of(std::str::from_utf8(case.text))?;
+    let (first, lines) = text.split_once('\n').unwrap_or((text, ""));
+    match first.parse::<u8>() {
+        Ok(processes) if processes <= 64 => show_calls(rt, processes, lines),
+        _ => refused(),
+    }
 }
