@@ -2,16 +2,17 @@
 //!
 //! A line says the files of the scenario and of the steps, `-` for none, the number of the object that has a trouble, counted
 //! from 1 in the order of the processes, each with its spares behind it, 0 for all, and the trouble: the call, which one, and
-//! its answer. Before it stands how the run is made: `play`, or `live`, with its texts; `meet` for a run in threads whose texts
-//! are not shown; `fail_played` or `fail_live` for one by writers that fail. Behind `run` or `threads` stands the file of a
-//! scenario alone, which is run over counters.
+//! its answer. Before it stands how the run is made: `play`, or `live`, with its texts; `meet` for a run in threads of which the
+//! report alone is shown; `fail_played` or `fail_live` for one by writers that fail; `left` for what a run in threads leaves.
+//! Behind `run` or `threads` stands the file of a scenario alone, which is run over counters; behind `miscast` two, of which the
+//! first is run in threads over objects that the second asks for.
 
 use crate::commands::{Host, plan_in, steps_in, word};
-use crate::running::{Way, show_counters_of};
+use crate::running::{Way, show_counters_of, show_live};
 use crate::staged::{Meeting, Staged, Trouble};
 use crate::streams::Paper;
 use kt_base::Memory;
-use kt_object::{Object, SlotBook, Sum};
+use kt_object::{Last, Object, SlotBook, SlotGuard, Sum};
 use kt_plan::{Plan, Step};
 use kt_program::{AppFault, cast_of, live_plan, play_plan};
 use std::alloc::Global;
@@ -41,6 +42,18 @@ impl Case<'_> {
             Trouble::Absent
         }
     }
+
+    // The object with this number, which holds this slot.
+    fn object(&self, number: u64, guard: SlotGuard) -> Result<Staged, Memory> {
+        Ok(Staged {
+            sum: Sum::new(guard),
+            number,
+            trouble: self.trouble_of(number),
+            meeting: Arc::try_clone(self.meeting)?,
+            saves: Cell::new(0),
+            restores: 0,
+        })
+    }
 }
 
 // The fault that a run ended with, if it had one; how many slots came free once it was over, and how many are out then.
@@ -49,6 +62,13 @@ struct Ended {
     fault: Option<AppFault>,
     freed: usize,
     out: usize,
+}
+
+impl Ended {
+    // Whether the run ended with a write fault, and no slot is out.
+    fn is_of_writing(&self) -> bool {
+        matches!(self.fault, Some(AppFault::Write)) && self.out == 0
+    }
 }
 
 // What the log, the certificates and the report of a run are written on.
@@ -73,6 +93,11 @@ impl Papers {
             report: Paper::new(alloc, call_for(2, text, call)),
         }
     }
+
+    // Whether nothing was written of what comes later than the text with this number.
+    fn is_blank_behind(&self, text: u8) -> bool {
+        (text > 0 || self.cert.is_blank()) && (text > 1 || self.report.is_blank())
+    }
 }
 
 // Makes a run over the objects of its case, one step after another or in threads.
@@ -87,15 +112,7 @@ fn run_staged<R: Host>(
     let mut made: u64 = 0;
     let cast = cast_of(alloc, case.plan, |_kind: u8| -> Result<Object, Memory> {
         made = made.saturating_add(1);
-        let staged = Staged {
-            sum: Sum::new(book.open()?),
-            number: made,
-            trouble: case.trouble_of(made),
-            meeting: Arc::try_clone(case.meeting)?,
-            saves: Cell::new(0),
-            restores: 0,
-        };
-        Ok(Box::new(alloc, staged)?)
+        Ok(Box::new(alloc, case.object(made, book.open()?)?)?)
     })?;
     let Papers { log, cert, report } = papers;
     if threads {
@@ -114,18 +131,15 @@ fn end_of<R: Host>(rt: &R, case: &Case, threads: bool, papers: &mut Papers) -> E
     Ended { fault, freed, out }
 }
 
-// At how many calls the writer of a text can fail: at each the run ends with a write fault, and no slot is out.
+// At how many calls the writer of a text can fail: at each the run ends with a write fault, no slot is out, and no later text
+// is begun.
 fn calls_that_fail<R: Host>(rt: &R, case: &Case, threads: bool, text: u8) -> usize {
     for call in 0..MOST_CALLS {
         let mut papers = Papers::new(rt.alloc(), text, call);
         match end_of(rt, case, threads, &mut papers) {
-            Ended {
-                fault: Some(AppFault::Write),
-                out: 0,
-                ..
-            } => {}
             Ended { fault: None, .. } => return call,
-            _ => return MOST_CALLS,
+            ended if !ended.is_of_writing() || !papers.is_blank_behind(text) => return MOST_CALLS,
+            _ => {}
         }
     }
     MOST_CALLS
@@ -153,14 +167,57 @@ fn show_texts<R: Print>(rt: &R, case: &Case, ended: Ended, papers: &Papers) -> i
     show_end(rt, case, ended)
 }
 
+// Shows the report of a run, and how it ended.
+fn show_report<R: Print>(rt: &R, case: &Case, ended: Ended, papers: &Papers) -> io::Result<()> {
+    print!(rt; "{}", papers.report.text())?;
+    show_end(rt, case, ended)
+}
+
 // Shows a run, with its texts where there is one order of its steps.
 fn show_run<R: Host>(rt: &R, case: &Case, way: &str) -> io::Result<()> {
     let mut papers = Papers::new(rt.alloc(), 3, 0);
     let ended = end_of(rt, case, way != "play", &mut papers);
     match way {
-        "meet" => show_end(rt, case, ended),
+        "meet" => show_report(rt, case, ended, &papers),
         _ => show_texts(rt, case, ended, &papers),
     }
+}
+
+// Shows how many slots come free and are out once a run is over.
+fn show_slots<R: Print>(rt: &R, book: &mut SlotBook) -> io::Result<()> {
+    let freed = book.collect();
+    println!(rt; "slots freed: {freed}, out: {}", book.out())
+}
+
+// Runs the objects of a case in threads, and shows what is left.
+fn show_left<R: Host>(rt: &R, case: &Case, book: &mut SlotBook) -> io::Result<()> {
+    let (alloc, mut number) = (rt.alloc(), 0u64);
+    let made = cast_of(alloc, case.plan, |_kind: u8| -> Result<Object, Memory> {
+        number = number.saturating_add(1);
+        Ok(Box::new(alloc, case.object(number, book.open()?)?)?)
+    });
+    let Ok(cast) = made else {
+        return Err(io::Error::from(io::ErrorKind::OutOfMemory));
+    };
+    show_live(rt, case.plan, cast, book)?;
+    show_slots(rt, book)
+}
+
+// Runs a plan in threads over the objects that another one asks for, and shows what is left.
+fn show_miscast<R: Host>(rt: &R, plan: &Plan, other: &Plan, book: &mut SlotBook) -> io::Result<()> {
+    let alloc = rt.alloc();
+    let made = cast_of(alloc, other, |kind: u8| -> Result<Object, Memory> {
+        let guard = book.open()?;
+        match kind {
+            1 => Ok(Box::new(alloc, Last::new(guard))?),
+            _ => Ok(Box::new(alloc, Sum::new(guard))?),
+        }
+    });
+    let Ok(cast) = made else {
+        return Err(io::Error::from(io::ErrorKind::OutOfMemory));
+    };
+    show_live(rt, plan, cast, book)?;
+    show_slots(rt, book)
 }
 
 // Shows the run of a line with this plan and these steps.
@@ -183,6 +240,7 @@ fn show_made<R: Host>(
     match way {
         "fail_played" => show_calls(rt, &case, false),
         "fail_live" => show_calls(rt, &case, true),
+        "left" => show_left(rt, &case, &mut SlotBook::new(rt.alloc())),
         _ => show_run(rt, &case, way),
     }
 }
@@ -193,11 +251,18 @@ fn show_staged<R: Host>(rt: &R, way: &str, line: &str, plan: &Plan) -> io::Resul
     show_made(rt, way, line, plan, steps.as_slice())
 }
 
+// Shows a run of a plan over the objects that the other scenario of a line asks for.
+fn show_other<R: Host>(rt: &R, line: &str, plan: &Plan) -> io::Result<()> {
+    let other = plan_in(rt, word(line, 1))?;
+    show_miscast(rt, plan, &other, &mut SlotBook::new(rt.alloc()))
+}
+
 // Shows a run of a plan, made in this way.
 fn show_planned<R: Host>(rt: &R, way: &str, line: &str, plan: &Plan) -> io::Result<()> {
     match way {
         "run" => show_counters_of(rt, &Way::Run, plan),
         "threads" => show_counters_of(rt, &Way::Live, plan),
+        "miscast" => show_other(rt, line, plan),
         _ => show_staged(rt, way, line, plan),
     }
 }

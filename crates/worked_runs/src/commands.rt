@@ -62,13 +62,13 @@ pub(crate) fn plan_in<R: Files + AllocGlobal>(rt: &R, name: &str) -> io::Result<
     value_of(parse(rt.alloc(), text.as_slice()))
 }
 
-/// The steps of a plan in a file; none for `-`.
+/// The steps of a plan in a file; none for `-`, or for no name.
 pub(crate) fn steps_in<R: Files + AllocGlobal>(
     rt: &R,
     name: &str,
     plan: &Plan,
 ) -> io::Result<Vec<Step>> {
-    if name == "-" {
+    if name.is_empty() || name == "-" {
         return Ok(Vec::new(rt.alloc()));
     }
     let text = fs::read(rt, name)?;

@@ -5,6 +5,7 @@
 //! `file NAME` writes that text into a file; or tell whether two files have the same: `same NAME OTHER`. What others do is said
 //! in the module that does it. A line `each FILE LINE; LINE` stands for these lines with each line of the file in place of `%`.
 
+use crate::answers::{show_both, show_cut};
 use crate::cases::show_case;
 use crate::commands::{Host, are_same, show_command, word};
 use crate::failing::show_failing;
@@ -54,9 +55,17 @@ fn do_verb<R: Host>(rt: &R, line: &str, verb: &str, words: &str) -> io::Result<(
         "rounds" => show_rounds(rt, words),
         "fails" => show_failing(rt, words),
         "world" => show_world(rt, words),
-        "play" | "live" | "meet" | "fail_played" | "fail_live" | "run" | "threads" => {
-            show_case(rt, verb, words)
-        }
+        "play"
+        | "live"
+        | "left"
+        | "meet"
+        | "fail_played"
+        | "fail_live"
+        | "run"
+        | "threads"
+        | "miscast" => show_case(rt, verb, words),
+        "both" => show_both(rt, words),
+        "cut" => show_cut(rt, words),
         "faults" => show_faults(rt),
         "rows" => show_rows(rt, words.parse::<u32>().unwrap_or(0)),
         "interrupted" => show_interrupted(rt),

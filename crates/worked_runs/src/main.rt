@@ -2,6 +2,7 @@
 //! words that are no texts. `CASES.md` says which case stands where.
 #![tactic(auto)]
 
+mod answers;
 mod cases;
 mod commands;
 mod counter;

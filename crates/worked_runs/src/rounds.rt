@@ -7,7 +7,8 @@
 use crate::commands::{Host, add_words, are_same};
 use kt_program::{Done, Words, carry_out};
 use std::alloc::{AllocError, Global};
-use std::io;
+use std::rt::Files;
+use std::{fs, io};
 
 // Does what a command line asks; whether a run came to its end, or a stored run passes.
 fn is_done<R: Host>(rt: &R, line: &str, out: &mut Vec<u8>) -> bool {
@@ -21,7 +22,15 @@ fn is_done<R: Host>(rt: &R, line: &str, out: &mut Vec<u8>) -> bool {
     )
 }
 
-// Whether a run comes to its end, is the same when it is played again, and passes.
+// Whether a log was written, and no checkpoint in it lacks a saved state.
+fn is_saved<R: Files + AllocGlobal>(rt: &R, log: &str) -> bool {
+    match fs::read_to_string(rt, log) {
+        Ok(text) => !text.contains("nosave"),
+        Err(_) => false,
+    }
+}
+
+// Whether a run comes to its end, is the same when it is played again, saves each object, and passes.
 fn is_well<R: Host>(rt: &R, run: &str, again: &str) -> bool {
     let (mut report, mut other) = (Vec::new(rt.alloc()), Vec::new(rt.alloc()));
     let check = "koo_toueg check run.log.csv run.cert.csv";
@@ -29,6 +38,7 @@ fn is_well<R: Host>(rt: &R, run: &str, again: &str) -> bool {
         && is_done(rt, again, &mut other)
         && report.as_slice() == other.as_slice()
         && is_done(rt, check, &mut other)
+        && is_saved(rt, "run.log.csv")
         && are_same(rt, "run.log.csv", "again.log.csv")
         && are_same(rt, "run.cert.csv", "again.cert.csv")
 }

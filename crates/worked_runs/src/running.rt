@@ -24,15 +24,20 @@ pub(crate) enum Way {
 fn show_run<R: Host>(rt: &R, plan: &Plan, cast: Cast, book: &mut SlotBook) -> io::Result<()> {
     match run(rt.alloc(), plan, &[], cast) {
         Ok(outcome) => show_outcome(rt, &outcome, book),
-        Err(fault) => println!(rt; "{fault}"),
+        Err(fault) => println!(rt; "{fault:?}"),
     }
 }
 
 /// The same with a thread for each process.
-fn show_live<R: Host>(rt: &R, plan: &Plan, cast: Cast, book: &mut SlotBook) -> io::Result<()> {
+pub(crate) fn show_live<R: Host>(
+    rt: &R,
+    plan: &Plan,
+    cast: Cast,
+    book: &mut SlotBook,
+) -> io::Result<()> {
     match live(rt, rt.alloc(), plan, cast) {
         Ok(outcome) => show_outcome(rt, &outcome, book),
-        Err(fault) => println!(rt; "{fault}"),
+        Err(fault) => println!(rt; "{fault:?}"),
     }
 }
 

@@ -103,6 +103,11 @@ impl Paper {
         }
     }
 
+    /// Whether it was given nothing.
+    pub(crate) fn is_blank(&self) -> bool {
+        self.taken.is_empty()
+    }
+
     /// What it has handed over.
     pub(crate) fn given(&self) -> &[u8] {
         let count = self.given.min(self.taken.len());

@@ -1,16 +1,18 @@
 //! Worlds at their limits, and how many parcels instances put.
 //!
 //! A line says the file of the scenario, what is shown, `end`, `tally` or `channels`, and what is limited with its number:
-//! `rows 3` for a log of three rows at most, `labels 3` for labels that come after 3, `none 0` for neither.
+//! `rows 3` for a log of three rows at most, `labels 3` for labels that come after 3, `none 0` for neither. Behind `end` there
+//! may stand the file of the steps that come first, `-` for none, and that of the log which is written.
 
-use crate::commands::{plan_in, value_of, word};
+use crate::commands::{plan_in, steps_in, value_of, word};
 use kt_base::{InstNo, Label, Memory, ProcNo, RowNo};
 use kt_core::{StepFault, World};
-use kt_plan::{Give, Plan};
-use kt_spacetime::Event;
+use kt_log_text::write_csv;
+use kt_plan::{Give, Plan, Step};
+use kt_spacetime::{Event, SpaceTime};
 use std::alloc::Global;
-use std::io;
 use std::rt::Files;
+use std::{fs, io};
 
 // How many default steps are made at most.
 const MOST: u32 = 100_000_000;
@@ -43,6 +45,16 @@ fn step_on(world: &mut World) -> Option<StepFault> {
     None
 }
 
+// Makes these steps, one behind the other; why one was refused.
+fn make_all(world: &mut World, steps: &[Step]) -> Option<StepFault> {
+    for step in steps {
+        if let Err(fault) = world.step(*step, GIVE) {
+            return Some(fault);
+        }
+    }
+    None
+}
+
 // How many rows abort an instance.
 fn aborts(rows: &[Event]) -> usize {
     rows.iter()
@@ -50,15 +62,51 @@ fn aborts(rows: &[Event]) -> usize {
         .count()
 }
 
-// Shows why a world refused a default step, if it did, else it is at rest; how many rows it has and how many of them abort.
-fn show_end<R: Print>(rt: &R, world: &mut World) -> io::Result<()> {
-    let fault = step_on(world);
+// Makes these steps, then default ones, until there is none or one is refused; why it was.
+fn make_more(world: &mut World, steps: &[Step]) -> Option<StepFault> {
+    match make_all(world, steps) {
+        Some(fault) => Some(fault),
+        None => step_on(world),
+    }
+}
+
+// Makes these steps, then default ones, and shows how many rows there are then, how many of them abort, why a step was refused,
+// if one was, and whether the world is at rest.
+fn show_end<R: Print>(rt: &R, world: &mut World, steps: &[Step]) -> io::Result<()> {
+    let fault = make_more(world, steps);
     let rows = world.log().rows();
     println!(rt;
-        "{} rows, {} aborts, refused: {fault:?}",
+        "{} rows, {} aborts, refused: {fault:?}, at rest: {}",
         rows.len(),
-        aborts(rows)
+        aborts(rows),
+        world.at_rest()
     )
+}
+
+// Writes a log into a file, where it has a name.
+fn write_log<R: Files + AllocGlobal>(rt: &R, name: &str, log: &SpaceTime) -> io::Result<()> {
+    if name.is_empty() {
+        return Ok(());
+    }
+    let mut file = fs::create(rt, name)?;
+    value_of(write_csv(rt.alloc(), log, &mut file))
+}
+
+// The steps that a line names.
+fn steps_of<R: Files + AllocGlobal>(rt: &R, line: &str) -> io::Result<Vec<Step>> {
+    let plan = plan_in(rt, word(line, 0))?;
+    steps_in(rt, word(line, 4), &plan)
+}
+
+// Shows the end of a world by the steps and into the log that a line names.
+fn show_end_of<R: Files + Print + AllocGlobal>(
+    rt: &R,
+    line: &str,
+    world: &mut World,
+) -> io::Result<()> {
+    let steps = steps_of(rt, line)?;
+    show_end(rt, world, steps.as_slice())?;
+    write_log(rt, word(line, 5), world.log())
 }
 
 // Shows how many parcels the first instance of a world puts.
@@ -106,18 +154,22 @@ fn world_in<R: Files + AllocGlobal>(rt: &R, line: &str) -> io::Result<World> {
 }
 
 // Shows what a line asks of its world.
-fn show_asked<R: Print>(rt: &R, asked: &str, world: &mut World) -> io::Result<()> {
-    match asked {
+fn show_asked<R: Files + Print + AllocGlobal>(
+    rt: &R,
+    line: &str,
+    world: &mut World,
+) -> io::Result<()> {
+    match word(line, 1) {
         "channels" => show_channels(rt, world),
         "tally" => show_tally(rt, world),
-        _ => show_end(rt, world),
+        _ => show_end_of(rt, line, world),
     }
 }
 
 /// Shows the world of a line.
 pub(crate) fn show_world<R: Files + Print + AllocGlobal>(rt: &R, line: &str) -> io::Result<()> {
     match world_in(rt, line) {
-        Ok(mut world) => show_asked(rt, word(line, 1), &mut world),
+        Ok(mut world) => show_asked(rt, line, &mut world),
         Err(fault) => Err(fault),
     }
 }
