@@ -51,10 +51,18 @@ fn has_text(alloc: Global, node: &Node, text: &[u8]) -> io::Result<bool> {
     Ok(text_of(alloc, node)?.as_slice() == text)
 }
 
-// Whether a text is read, and written as it is read; not where there is no memory.
-fn is_read(alloc: Global, text: &[u8]) -> io::Result<bool> {
+// Whether a text is read, and written as it is read.
+fn is_written_again(alloc: Global, text: &[u8]) -> io::Result<bool> {
     match load(alloc, text) {
         Ok(node) => has_text(alloc, &node, text),
+        Err(_) => Ok(false),
+    }
+}
+
+// Whether a text is read; not where there is no memory.
+fn is_read(alloc: Global, text: &[u8]) -> io::Result<bool> {
+    match load(alloc, text) {
+        Ok(_) => Ok(true),
         Err(LoadFault::Form) => Ok(false),
         Err(LoadFault::Memory) => refused(),
     }
@@ -95,7 +103,7 @@ fn read_of_flipped(alloc: Global, text: &[u8], has_checksum: bool) -> io::Result
 // Shows what is read of a text, and of what comes of it.
 fn show_read<R: Print + AllocGlobal>(rt: &R, title: &str, text: &[u8]) -> io::Result<()> {
     let (alloc, length) = (rt.alloc(), text.len());
-    let is_same = is_read(alloc, text)?;
+    let is_same = is_written_again(alloc, text)?;
     println!(rt; "{title}: {length} bytes are read: {is_same}")?;
     if length > LONG {
         return Ok(());
