@@ -101,17 +101,17 @@ module _ (words : List Text) (asked : Asked) (named : NamesAsked (subcommand_of 
   draw_drawn told old new drawing (Err failure) draws done drawn = tt
 
   -- parts are merged, or not
-  unmerged : (fault : ProgramFault) → IsOfMerging fault → RefusedFor words fault
-  unmerged program.SameFile of = (asked, named, apart, tt)
-  unmerged (program.App fault) of = tt
-  unmerged program.Line of = absurd of
-  unmerged (program.Scenario fault) of = absurd of
-  unmerged (program.Steps fault) of = absurd of
-  unmerged program.Read of = absurd of
+  unmerged : {F : Type 0} (told : F → BytesTold) (merging : Merging) (fault : ProgramFault) → IsOfMerging told merging fault → RefusedFor words fault
+  unmerged told merging fault (inl (inl e)) = subst (RefusedFor words) (sym e) (asked, named, apart, tt)
+  unmerged told merging fault (inl (inr (inl e))) = subst (RefusedFor words) (sym e) tt
+  unmerged told merging fault (inl (inr (inr e))) = subst (RefusedFor words) (sym e) tt
+  unmerged told merging fault (inr (inl u)) = subst (RefusedFor words) (sym u.2) tt
+  unmerged told merging fault (inr (inr s)) = subst (RefusedFor words) (sym s.5) tt
 
-  pub merge_ends : (result : Result Done Failure) → IsMerge asked → IfOk result (λ what. what ≡ Merged) → IfErr result (λ failure. IsOfMerging failure.fault) → EndsFor words result
-  merge_ends (Ok what) merge done of = subst (DoneFor words) (sym done) (asked, named, apart, merge)
-  merge_ends (Err failure) merge done of = unmerged failure.fault of
+  pub merge_ends : {F : Type 0} (told : F → BytesTold) (merging : Merging) (result : Result Done Failure) → IsMerge asked → IfOk result (λ what. what ≡ Merged)
+      → IfErr result (λ failure. IsOfMerging told merging failure.fault) → EndsFor words result
+  merge_ends told merging (Ok what) merge done of = subst (DoneFor words) (sym done) (asked, named, apart, merge)
+  merge_ends told merging (Err failure) merge done of = unmerged told merging failure.fault of
 
   pub merge_leaves : (old new : BytesTold) (result : Result Done Failure) → IfOk result (λ what. what ≡ Merged) → LeavesMerge result old new → LeavesOutput words result old new
   merge_leaves old new (Ok what) done leaves = rw done leaves

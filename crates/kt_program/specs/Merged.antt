@@ -1,12 +1,12 @@
 -- What the program makes of parts that are to be merged.
-use Rattle.std.specs.Prelude.{◌≡◌, ◌≢◌, ◌⊎◌, ℕ, List, [], length, Some, Result, Ok, Err}
+use Rattle.std.specs.Prelude.{◌≡◌, ◌≢◌, ◌⊎◌, ◌<◌, ℕ, List, [], length, Some, Result, Ok, Err}
 use Rattle.std.specs.List.{slice_get}
 use Rattle.std.specs.Io.KnownBytes.{Appends}
 use Rattle.kt_merge.specs.declared.part_fault.PartFault.TheVariants as part
 use Rattle.kt_merge.specs.Reading.{PartRead, part_unread}
 use Rattle.kt_merge.specs.declared.fault.MergeFault.{MergeFault}
 use Rattle.kt_merge.specs.declared.fault.MergeFault.TheVariants as merge
-use Rattle.kt_merge.specs.Merging.{WritesMerge}
+use Rattle.kt_merge.specs.Merging.{StopsMerge, WritesMerge}
 use Rattle.kt_program.specs.declared.ending.Done.{Done}
 use Rattle.kt_program.specs.declared.fault.AppFault.{AppFault}
 use Rattle.kt_program.specs.declared.fault.AppFault.TheVariants as app
@@ -14,7 +14,9 @@ use Rattle.kt_program.specs.declared.fault.Failure.{Failure}
 use Rattle.kt_program.specs.declared.fault.ProgramFault.{ProgramFault}
 use Rattle.kt_program.specs.declared.fault.ProgramFault.TheVariants as program
 use Rattle.kt_program.specs.declared.line.Merging.{Merging}
-use Rattle.kt_program.specs.Outputs.{TextGoesTo}
+use Rattle.kt_program.specs.declared.sources.Role.TheVariants.{Part}
+use Rattle.kt_program.specs.Outputs.{IsOfWhole, TextGoesTo}
+use Rattle.kt_program.specs.Sources.{unread}
 use Rattle.kt_program.specs.Stored.{BytesTold}
 
 -- a fault of parts, as the program answers it
@@ -47,11 +49,17 @@ abbrev pub LeavesMerge : Result Done Failure → BytesTold → BytesTold → Typ
 LeavesMerge (Ok what) old new = LeavesLog old new
 LeavesMerge (Err failure) old new = failure.fault ≢ program.App app.Write → new ≡ old
 
--- a fault of merging: none of the words, nor of a scenario or steps
-abbrev pub IsOfMerging : ProgramFault → Type 0
-IsOfMerging program.SameFile = Unit {0}
-IsOfMerging (program.App fault) = Unit {0}
-IsOfMerging program.Line = ⊥
-IsOfMerging (program.Scenario fault) = ⊥
-IsOfMerging (program.Steps fault) = ⊥
-IsOfMerging program.Read = ⊥
+-- the file of one of so many parts is not opened
+abbrev pub IsUnopened : ℕ → ProgramFault → Type 0
+IsUnopened count fault = (p : ℕ) × (p < count) × (fault ≡ unread (Part p))
+
+-- the merge of these parts stops, and this is answered
+abbrev pub IsStopOf : List PartRead → AppFault → Type 0
+IsStopOf parts fault = (why : MergeFault) × (old new : BytesTold) × StopsMerge parts old new why × (fault ≡ of_merge why)
+
+-- a fault of merging: of the file that is written or of memory; or a part is not opened; or the merge stops of parts that files say, as
+-- many as are named
+abbrev pub IsOfMerging : {F : Type 0} → (F → BytesTold) → Merging → ProgramFault → Type 0
+IsOfMerging told asked fault = IsOfWhole fault ⊎ (IsUnopened (length asked.parts.items) fault
+    ⊎ ((parts : List PartRead) × AreReadFrom told parts × (length parts ≡ length asked.parts.items)
+    × (why : AppFault) × IsStopOf parts why × (fault ≡ program.App why)))

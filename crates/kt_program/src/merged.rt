@@ -1,9 +1,13 @@
 //! Parts merged.
 
-ghost use Rattle.std.specs.Prelude.{◌≡◌, ◌≤◌, ℕ, List, length, IfOk, IfErr, OnOk};
+ghost use Rattle.std.specs.Prelude.{◌≡◌, ◌≤◌, ◌⊎◌, ℕ, List, length, IfOk, IfErr, OnOk};
 ghost use Rattle.kt_merge.specs.Merging.{ArePartsUnread};
 ghost use Rattle.kt_program.specs.declared.ending.Done.TheVariants.{Merged};
-ghost use Rattle.kt_program.specs.Merged.{AreReadFrom, IsMergedText, IsOfMerging, LeavesMerge, MergesTo, of_merge};
+ghost use Rattle.kt_program.specs.declared.fault.AppFault.{AppFault as app_faults};
+ghost use Rattle.kt_program.specs.declared.fault.AppFault.TheVariants as app;
+ghost use Rattle.kt_program.specs.declared.fault.ProgramFault.TheVariants as program;
+ghost use Rattle.kt_program.specs.Merged.{AreReadFrom, IsMergedText, IsOfMerging, IsStopOf, IsUnopened, LeavesMerge, MergesTo, of_merge};
+ghost use Rattle.kt_program.specs.Outputs.{IsOfWhole};
 
 use crate::ending::Done;
 use crate::fault::{AppFailure, AppFault, Failure};
@@ -35,7 +39,7 @@ pub(crate) fn merge_files<F: Files, O: Write>(
     requires { length asked.now.parts.items ≤ 64 }
     ensures done { IfOk result (λ what. what ≡ Merged) }
     ensures merged { OnOk result (MergesTo F.File.remaining asked.now (O.contents out.old) (O.contents out.new)) }
-    ensures fault { IfErr result (λ failure. IsOfMerging failure.fault) }
+    ensures fault { IfErr result (λ failure. IsOfMerging F.File.remaining asked.now failure.fault) }
     ensures output { LeavesMerge result (O.contents out.old) (O.contents out.new) }
 {
     let mut read = ReadFiles::none();
@@ -60,7 +64,8 @@ fn parts_in<'a, F: Files>(
     requires { length names.now ≤ 64 }
     ensures parts { IfOk result (λ parts. (length parts ≡ length names.now) × ArePartsUnread parts
         × AreReadFrom F.File.remaining parts) }
-    ensures fault { IfErr result (λ failure. IsOfMerging failure.fault) }
+    ensures fault { IfErr result (λ failure. IsUnopened (length names.now) failure.fault
+        ⊎ (failure.fault ≡ program.App app.Memory)) }
 {
     let mut parts = Parts::new(alloc);
     for (place, name) in names.iter().enumerate() {
@@ -83,6 +88,7 @@ fn merged_text<R: Read + Drop>(
     requires few { length parts.old ≤ 64 }
     requires unread { ArePartsUnread parts.old }
     ensures text { IfOk result (λ text. IsMergedText parts.old text.items) }
+    ensures stopped { IfErr result (λ failure. IsStopOf parts.old failure.fault) }
 {
     let mut text = Vec::new(alloc);
     match merge_inputs(alloc, parts, hints, &mut text) {
@@ -103,7 +109,8 @@ fn merge_into<F: Files>(
     requires few { length parts.old ≤ 64 }
     requires unread { ArePartsUnread parts.old }
     ensures merged { OnOk result ((text : List ℕ) × IsMergedText parts.old text) }
-    ensures fault { IfErr result (λ failure. IsOfMerging failure.fault) }
+    ensures fault { IfErr result (λ failure. IsOfWhole failure.fault
+        ⊎ ((why : app_faults) × IsStopOf parts.old why × (failure.fault ≡ program.App why))) }
 {
     let mut whole = whole_of(files, alloc, read, name)?;
     if whole.is_seen() {
@@ -122,7 +129,7 @@ fn merge_into<F: Files>(
 
 // Why the log of these parts is not written into a file.
 fn unwritten<R: Read + Drop>(parts: &Parts<Input<R>>, unmerged: Unmerged) -> Failure
-    ensures { IsOfMerging result.fault }
+    ensures { (result.fault ≡ program.App app.Write) ⊎ (result.fault ≡ program.App (of_merge unmerged.fault)) }
 {
     match unmerged.fault {
         MergeFault::Write => Failure::from(AppFault::Write),

@@ -123,14 +123,11 @@ fn begun<F: Files>(
             drop(file);
             begun_beside(files, alloc, Some(metadata.permissions()), replaced, name)
         }
-        Ok(_) => match empty_file(&file) {
-            Ok(()) => Ok(Whole {
-                file: Named::of(file, shown),
-                replaced,
-                names: None,
-            }),
-            Err(error) => Err(failure_of(Attempt::Write, shown, &error)),
-        },
+        Ok(_) => Ok(Whole {
+            file: Named::of(file, shown),
+            replaced,
+            names: None,
+        }),
         Err(error) => Err(failure_of(Attempt::Write, shown, &error)),
     }
 }
@@ -199,7 +196,7 @@ fn real_name<F: Files>(files: &F, alloc: Global, name: &str) -> Result<String, F
     }
 }
 
-/// Writes a text, which is all that this file is to have, and finishes it.
+/// Writes a text, which is all that this file is to have, and finishes it. One that is seen at once is emptied no earlier.
 pub(crate) fn write_finished<F: Files>(
     files: &F,
     mut whole: Whole<F::File>,
@@ -207,6 +204,12 @@ pub(crate) fn write_finished<F: Files>(
 ) -> Result<(), Failure>
     ensures { IfErr result (λ failure. IsOfWhole failure.fault) }
 {
+    if whole.is_seen() {
+        if let Err(error) = empty_file(&whole.file.file) {
+            let failure = failure_of(Attempt::Write, whole.file.name, &error);
+            return Err(give_up(files, whole, failure));
+        }
+    }
     match write_text(text, &mut whole) {
         Ok(()) => finish(files, whole),
         Err(fault) => Err(give_up(files, whole, Failure::from(fault))),

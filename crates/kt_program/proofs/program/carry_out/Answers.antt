@@ -120,7 +120,7 @@ returns-in-Ok-Merge-clause-words g c =
     let a = c.in-Ok-Merge in
     let named = subst (λ (x : Asked). NamesAsked (subcommand_of definition c.args.words.now) x) a.field-0-is a.ensures.named in
     let apart = subst IsApart a.field-0-is a.ensures.apart in
-    merge_ends c.args.words.now (Merge a.merging) named apart c.merge_files.result tt c.merge_files.ensures.done c.merge_files.ensures.fault
+    merge_ends c.args.words.now (Merge a.merging) named apart g.F.File.Read.remaining a.merging c.merge_files.result tt c.merge_files.ensures.done c.merge_files.ensures.fault
 
 pub returns-in-Ok-Merge-clause-output : goal.returns-in-Ok-Merge-clause-output
 returns-in-Ok-Merge-clause-output g c =
