@@ -1,126 +1,93 @@
 //! Who takes a parcel next.
 
-ghost use Rattle.std.specs.Prelude.{◌≡◌, ◌<◌, ◌||◌, ℕ, true, false, [], IfSome, IfNone};
-ghost use Rattle.kt_base.specs.Sets.{has};
-ghost use Rattle.kt_fifo.specs.Channels.{channel};
-ghost use Rattle.kt_fifo.specs.Queues.{has_parcel};
-ghost use Rattle.kt_system.specs.Reads.{can_take, IsNextTake, HasNoTake};
-ghost use Rattle.kt_system.specs.Takes.{is_sent, is_held, WithSome, IsFirstNumber, lesser};
-
-use super::System;
-use kt_base::{ProcNo, ProcSet};
+use super::{ProcNo, ProcSet, System, member_at};
 
 impl System {
     /// The least process that can take a parcel that is held for it.
-    fn held_taker(&self) -> Option<ProcNo>
-        ensures within { IfSome result (λ at. at < self.now.size) }
-        ensures first { IsFirstNumber (WithSome (is_held self.now)) result }
-    {
-        let receivers = self.held.receivers();
-        if receivers.first().is_none() {
-            return None;
-        }
-        for number in 0..self.processes() as u8 {
-            let at = ProcNo::nth(number);
-            if receivers.has(at) && !self.is_ready(at) {
+    #[inline(always)]
+    fn held_taker(&self) -> Option<ProcNo> {
+        let mut rest = self.holders;
+        while let Some(at) = rest.first() {
+            if !self.is_ready(at) {
                 return Some(at);
             }
+            rest = rest.without(at);
         }
         None
     }
 
-    /// The least process to which a parcel is in a channel.
-    fn channel_taker(&self) -> Option<ProcNo>
-        ensures within { IfSome result (λ at. at < self.now.size) }
-        ensures first { IsFirstNumber (WithSome (is_sent self.now)) result }
-    {
-        self.channels.receivers().first()
+    #[inline(always)]
+    fn taker(&self) -> Option<ProcNo> {
+        least(self.out.channels.receivers().first(), self.held_taker())
     }
 
-    /// The least process that can take a parcel.
-    fn taker(&self) -> Option<ProcNo>
-        ensures within { IfSome result (λ at. at < self.now.size) }
-        ensures first { IsFirstNumber (WithSome (can_take self.now)) result }
-    {
-        least(self.channel_taker(), self.held_taker())
-    }
-
-    /// The processes of which one has parcels in channels.
-    pub(super) fn senders(&self, at: ProcNo) -> ProcSet
-        requires { at < self.now.size }
-        ensures sent { (q : ℕ) → has result q ≡ is_sent self.now at q }
-        ensures within { (q : ℕ) → has result q ≡ true → q < self.now.size }
-    {
-        self.channels.senders(at)
+    #[inline(always)]
+    pub(super) fn senders(&self, at: ProcNo) -> ProcSet {
+        self.out.channels.senders(at)
     }
 
     /// The processes of which parcels are held for one, where it is in no rollback.
-    pub(super) fn held_senders(&self, at: ProcNo) -> ProcSet
-        requires { at < self.now.size }
-        ensures held { (q : ℕ) → has result q ≡ is_held self.now at q }
-        ensures within { (q : ℕ) → has result q ≡ true → q < self.now.size }
-    {
-        if !self.takes_held(at) {
+    #[inline(always)]
+    pub(super) fn held_senders(&self, at: ProcNo) -> ProcSet {
+        if !self.holders.has(at) || self.is_ready(at) {
             return ProcSet::empty();
         }
-        self.held.senders(at)
+        self.managers[at.index()].inbox().holds()
     }
 
-    /// The least process from which one can take a parcel.
-    pub fn sender(&self, at: ProcNo) -> Option<ProcNo>
-        requires { at < self.now.size }
-        ensures within { IfSome result (λ from. from < self.now.size) }
-        ensures first { IsFirstNumber (λ from. can_take self.now at from ≡ true) result }
-    {
-        let sent = self.senders(at).first();
-        if !self.takes_held(at) {
-            return sent;
-        }
-        least(sent, self.held_senders(at).first())
+    #[inline(always)]
+    pub fn sender(&self, at: ProcNo) -> Option<ProcNo> {
+        least(self.senders(at).first(), self.held_senders(at).first())
     }
 
-    /// The processes from which one can take a parcel.
-    pub fn all_senders(&self, at: ProcNo) -> ProcSet
-        requires { at < self.now.size }
-        ensures takes { (from : ℕ) → has result from ≡ can_take self.now at from }
-        ensures within { (from : ℕ) → has result from ≡ true → from < self.now.size }
-    {
+    pub fn all_senders(&self, at: ProcNo) -> ProcSet {
         joined(self.senders(at), self.held_senders(at))
     }
 
-    /// The processes to which parcels are in channels or held: no other one can take a parcel.
-    pub fn receivers(&self) -> ProcSet
-        ensures some { (at : ℕ) → has result at ≡ true → (from : ℕ) ×
-            ((has_parcel (channel self.now.channels from at) || has_parcel (channel self.now.held from at)) ≡ true) }
-        ensures none { (at from : ℕ) → has result at ≡ false →
-            (channel self.now.channels from at ≡ []) × (channel self.now.held from at ≡ []) }
-        ensures others { (at from : ℕ) → has result at ≡ false → can_take self.now at from ≡ false }
-        ensures within { (at : ℕ) → has result at ≡ true → at < self.now.size }
-    {
-        joined(self.channels.receivers(), self.held.receivers())
+    pub fn receivers(&self) -> ProcSet {
+        joined(self.out.channels.receivers(), self.holders)
     }
 
-    /// The least process that can take a parcel, and the least from which it can.
-    pub fn next_take(&self) -> Option<(ProcNo, ProcNo)>
-        ensures some { IfSome result (λ take. IsNextTake self.now take.0 take.1) }
-        ensures none { IfNone result (HasNoTake self.now) }
-    {
+    #[inline(always)]
+    pub fn next_take(&self) -> Option<(ProcNo, ProcNo)> {
         let at = self.taker()?;
         let from = self.sender(at)?;
         Some((at, from))
     }
+
+    #[inline(always)]
+    pub fn holds_none(&self) -> bool {
+        self.holders.first().is_none()
+    }
+
+    #[inline(always)]
+    pub fn take_count(&self, at: ProcNo) -> usize {
+        if self.held_senders(at).first().is_none() {
+            return self.out.channels.sender_count(at);
+        }
+        self.all_senders(at).count() as usize
+    }
+
+    pub fn sender_at(&self, at: ProcNo, place: usize) -> Option<ProcNo> {
+        member_at(self.all_senders(at), place)
+    }
+
+    #[inline(always)]
+    pub fn takes(&self) -> usize {
+        self.out.channels.busy_pairs()
+    }
+
+    #[inline(always)]
+    pub fn take_at(&self, place: usize) -> Option<(ProcNo, ProcNo)> {
+        self.out.channels.pair_at(place)
+    }
 }
 
 /// The members of two sets.
-fn joined(first: ProcSet, second: ProcSet) -> ProcSet
-    ensures { (q : ℕ) → has result q ≡ (has first q || has second q) }
-{
+fn joined(first: ProcSet, second: ProcSet) -> ProcSet {
     let mut all = first;
     let mut left = second;
-    for _number in 0..ProcNo::COUNT {
-        let Some(p) = left.first() else {
-            return all;
-        };
+    while let Some(p) = left.first() {
         all = all.with(p);
         left = left.without(p);
     }
@@ -128,9 +95,8 @@ fn joined(first: ProcSet, second: ProcSet) -> ProcSet
 }
 
 /// The lesser of two processes.
-fn least(first: Option<ProcNo>, second: Option<ProcNo>) -> Option<ProcNo>
-    ensures { result ≡ lesser first second }
-{
+#[inline(always)]
+fn least(first: Option<ProcNo>, second: Option<ProcNo>) -> Option<ProcNo> {
     match (first, second) {
         (Some(one), Some(other)) => {
             if one.get() <= other.get() {
