@@ -12,6 +12,7 @@ use super::steps::settle;
 use crate::laws::laws_of_runs;
 use kt_base::{Memory, ProcNo};
 use kt_plan::{Act, Give, Look, Step};
+use kt_system::Meeting;
 
 impl World {
     /// Makes the step in which a process takes a parcel of another one, where that needs nothing of its object and asks
@@ -41,5 +42,40 @@ impl World {
         }
         settle(&mut self.agenda, &self.system);
         Ok(true)
+    }
+
+    /// How one meets the next parcel of another one; None where the log is full.
+    #[inline(always)]
+    pub fn meet(&self, at: ProcNo, from: ProcNo) -> Option<Meeting> {
+        if self.is_full() {
+            return None;
+        }
+        Some(self.system.meet(at, from))
+    }
+
+    /// One takes the next parcel of another one, which it meets so.
+    #[inline(always)]
+    pub fn take_met(
+        &mut self,
+        at: ProcNo,
+        from: ProcNo,
+        meeting: &Meeting,
+        able: bool,
+    ) -> Result<(), Memory> {
+        self.system.take_met(at, from, meeting, able)?;
+        settle(&mut self.agenda, &self.system);
+        Ok(())
+    }
+
+    /// Whether the last step told acts.
+    #[inline(always)]
+    pub fn told_acts(&self) -> bool {
+        self.system.told_acts()
+    }
+
+    /// The acts of the last step.
+    #[inline(always)]
+    pub fn acts(&self) -> [Act; 2] {
+        self.system.acts()
     }
 }

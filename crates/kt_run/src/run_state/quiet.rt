@@ -18,9 +18,10 @@ use super::RunState;
 use crate::faults::RunFault;
 use crate::journals::Journals;
 use crate::laws::laws_of_runs;
-use kt_core::World;
+use kt_base::ProcNo;
 use kt_object::Recoverable;
 use kt_plan::{Act, Give, Look, Step};
+use kt_system::Meeting;
 
 impl RunState {
     /// Makes a step that is enabled; the process's object is asked and told only where the step has to do with it.
@@ -59,40 +60,44 @@ impl RunState {
             (told_and_held self.new.journals self.new.objects.items
             (λ b. content (kind_of (b.vtable, b.value)) (value_of (b.vtable, b.value))))) }
     {
-        laws_of_runs();
-        let made = make_quietly(&mut self.world, &self.journals, &step)?;
-        if made {
-            self.done += 1;
-            return Ok(());
+        if let Step::Take { at, from } = step {
+            if !self.journals.are_kept() {
+                if let Some(meeting) = self.world.meet(at, from) {
+                    return self.take(at, from, &meeting);
+                }
+            }
         }
         self.make_with_object(step)
     }
+
+    /// One takes the next parcel of another one, which it meets so.
+    #[inline(always)]
+    fn take(&mut self, at: ProcNo, from: ProcNo, meeting: &Meeting) -> Result<(), RunFault> {
+        if meeting.saves() {
+            return self.take_saving(at, from, meeting);
+        }
+        self.world.take_met(at, from, meeting, false)?;
+        self.done += 1;
+        if !self.world.told_acts() {
+            return Ok(());
+        }
+        self.obey(at, None)
+    }
+
+    #[inline(never)]
+    fn take_saving(&mut self, at: ProcNo, from: ProcNo, meeting: &Meeting) -> Result<(), RunFault> {
+        let answer = self.objects[at.index()].ask(self.alloc, Look::NeedsSave);
+        self.world.take_met(at, from, meeting, answer.give.able)?;
+        self.done += 1;
+        self.obey(at, answer.saved)
+    }
+
+    #[inline(always)]
+    fn obey(&mut self, at: ProcNo, saved: Option<Vec<u8>>) -> Result<(), RunFault> {
+        match self.objects[at.index()].obey(self.world.acts(), saved) {
+            Ok(()) => Ok(()),
+            Err(fault) => Err(RunFault::of_act(at, fault)),
+        }
+    }
 }
 
-/// Makes a step that is enabled, where nothing is noted and it needs nothing of the process's object and asks nothing of it.
-/// Whether it did so; else nothing is done.
-#[inline(always)]
-fn make_quietly(world: &mut World, journals: &Journals, step: &Step) -> Result<bool, RunFault>
-    requires { can_make world.old step.now ≡ true }
-    ensures fault { IfErr result (λ fault. fault ≡ RunFault.Memory) }
-    ensures plan { world.new.agenda.plan ≡ world.old.agenda.plan }
-    ensures size { world.new.system.size ≡ world.old.system.size }
-    ensures left { IfOk result (λ made. made ≡ false → world.new ≡ world.old) }
-    ensures unkept { IfOk result (λ made. made ≡ true → journals.now ≡ []) }
-    ensures look { IfOk result (λ made. made ≡ true → (first : ℕ) (v : Progress) →
-        Mirrors world.old.agenda world.old.system first v → look world.old.agenda.plan v step.now ≡ Look.Plain) }
-    ensures leads { IfOk result (λ made. made ≡ true → (give : Give) → give.able ≡ false →
-        Tells world.old [] step.now give world.new [] (Act.Nothing ∷ Act.Nothing ∷ [])) }
-{
-    laws_of_runs();
-    if journals.are_kept() {
-        return Ok(false);
-    }
-    match *step {
-        Step::Do(_) => Ok(false),
-        Step::Take { at, from } => match world.take_quietly(at, from) {
-            Ok(made) => Ok(made),
-            Err(_) => Err(RunFault::Memory),
-        },
-    }
-}
