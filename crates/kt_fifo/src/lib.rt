@@ -8,7 +8,9 @@ mod channels;
 mod counts;
 mod fifo;
 mod parcels;
+mod pool;
 
 pub use channels::Channels;
 pub use counts::member_at;
 pub use parcels::Parcel;
+pub use pool::Pool;

@@ -1,7 +1,7 @@
 //! Where what a step tells goes.
 
 use crate::rows::Row;
-use kt_base::{Kind, Label, Memory, ProcNo, ProcSet};
+use kt_base::{Kind, Label, ProcNo, ProcSet};
 use kt_plan::Act;
 use kt_process::Asks;
 
@@ -11,11 +11,9 @@ pub trait Name: Copy {
     fn is_one(&self, other: &Self) -> bool;
 }
 
-/// What takes the rows, the parcels and the acts of a step of process `me`.
+/// What takes the rows, the parcels and the acts of a step of process `me`, with room for four rows, and for two parcels to
+/// each process.
 pub trait Sink<I, M> {
-    /// Room for four rows, and for two parcels to each of a set.
-    fn make_room(&mut self, me: ProcNo, targets: ProcSet) -> Result<(), Memory>;
-
     /// The mark of a message that is sent now.
     fn mark(&self) -> M;
 

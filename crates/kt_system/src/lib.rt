@@ -16,4 +16,4 @@ mod system;
 pub use kept::{marks_of, restore, trim};
 pub use puts::{put_asks, put_decisions};
 pub use rooms::{make_room, make_room_back, make_room_to};
-pub use system::{Meeting, System, Tally};
+pub use system::{System, Taken, Tally};

@@ -3,7 +3,7 @@
 ghost use Rattle.std.specs.Prelude.{[]};
 
 use kt_base::{InstNo, Kind, Label, Memory, MsgNo, ProcNo, ProcSet};
-use kt_fifo::{Channels, Parcel, member_at};
+use kt_fifo::{Parcel, member_at};
 use kt_manager::{Answer, Manager};
 use kt_plan::Act;
 use kt_spacetime::SpaceTime;
@@ -17,7 +17,7 @@ mod takes;
 
 pub use outbox::Tally;
 use outbox::{Named, Outbox};
-pub use steps::Meeting;
+pub use steps::Taken;
 
 /// Managers, what they put out, and how many instances began.
 #[derive(Drop)]

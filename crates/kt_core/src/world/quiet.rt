@@ -12,7 +12,7 @@ use super::steps::settle;
 use crate::laws::laws_of_runs;
 use kt_base::{Memory, ProcNo};
 use kt_plan::{Act, Give, Look, Step};
-use kt_system::Meeting;
+use kt_system::Taken;
 
 impl World {
     /// Makes the step in which a process takes a parcel of another one, where that needs nothing of its object and asks
@@ -44,27 +44,25 @@ impl World {
         Ok(true)
     }
 
-    /// How one meets the next parcel of another one; None where the log is full.
+    /// One takes the next parcel of another one; where its object has to be saved first, this is told.
     #[inline(always)]
-    pub fn meet(&self, at: ProcNo, from: ProcNo) -> Option<Meeting> {
-        if self.is_full() {
-            return None;
-        }
-        Some(self.system.meet(at, from))
-    }
-
-    /// One takes the next parcel of another one, which it meets so.
-    #[inline(always)]
-    pub fn take_met(
+    pub fn take_next(
         &mut self,
         at: ProcNo,
         from: ProcNo,
-        meeting: &Meeting,
-        able: bool,
-    ) -> Result<(), Memory> {
-        self.system.take_met(at, from, meeting, able)?;
-        settle(&mut self.agenda, &self.system);
-        Ok(())
+        saved: Option<bool>,
+    ) -> Result<Taken, Memory> {
+        let taken = self.system.take_next(at, from, saved)?;
+        if let Taken::Made = taken {
+            settle(&mut self.agenda, &self.system);
+        }
+        Ok(taken)
+    }
+
+    /// Whether the log is full.
+    #[inline(always)]
+    pub fn has_room(&self) -> bool {
+        !self.is_full()
     }
 
     /// Whether the last step told acts.

@@ -1,6 +1,6 @@
 //! Replies, decisions, and the end of an instance.
 
-use super::{Act, Action, Manager, Memory, Name, ProcNo, Row, Sink};
+use super::{Act, Action, Manager, Name, ProcNo, Row, Sink};
 
 impl<I: Name + Drop, M: Copy + Drop> Manager<I, M> {
     /// A reply of a process comes.
@@ -11,12 +11,9 @@ impl<I: Name + Drop, M: Copy + Drop> Manager<I, M> {
         inst: &I,
         willing: bool,
         sink: &mut S,
-    ) -> Result<(), Memory> {
+    ) {
         if !self.awaits(from, inst) {
-            return Ok(());
-        }
-        if self.awaited() == 1 {
-            sink.make_room(self.me, self.process.partners())?;
+            return;
         }
         self.answered = self.answered.with(from);
         match self.process.hear_reply(willing) {
@@ -24,7 +21,6 @@ impl<I: Name + Drop, M: Copy + Drop> Manager<I, M> {
             Action::Settle { commit, .. } => self.decide(inst, commit, sink),
             Action::Nothing | Action::Refuse(_) | Action::Join { .. } => {}
         }
-        Ok(())
     }
 
     /// Whether it awaits a reply of a process in this instance.
@@ -47,13 +43,11 @@ impl<I: Name + Drop, M: Copy + Drop> Manager<I, M> {
         inst: &I,
         commit: bool,
         sink: &mut S,
-    ) -> Result<(), Memory> {
+    ) {
         if !self.heeds(from, inst) {
-            return Ok(());
+            return;
         }
-        sink.make_room(self.me, self.process.asked())?;
         self.close(inst, commit, sink);
-        Ok(())
     }
 
     /// Whether it is in this instance, by the last ask of this process.

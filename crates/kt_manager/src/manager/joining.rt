@@ -15,8 +15,6 @@ impl<I: Name + Drop, M: Copy + Drop> Manager<I, M> {
         able: bool,
         sink: &mut S,
     ) -> Result<bool, Memory> {
-        let targets = self.process.peers(kind);
-        sink.make_room(self.me, targets)?;
         let action = match kind {
             Kind::Checkpoint => {
                 self.process
@@ -97,7 +95,6 @@ impl<I: Name + Drop, M: Copy + Drop> Manager<I, M> {
             }
             Answer::Rolls => return self.take_joining(from, inst, kind, label, sink),
         };
-        sink.make_room(self.me, ProcSet::empty().with(from))?;
         self.asks[from.index()] = Some(*inst);
         if self.process.is_ready() && cause.is_none() {
             self.note(from, label)?;
@@ -125,7 +122,6 @@ impl<I: Name + Drop, M: Copy + Drop> Manager<I, M> {
         label: Label,
         sink: &mut S,
     ) -> Result<(), Memory> {
-        sink.make_room(self.me, self.process.peers(kind).with(from))?;
         let action = match kind {
             Kind::Checkpoint => self.process.hear_ask_to_save(
                 true,

@@ -1,6 +1,6 @@
 //! Messages and failures.
 
-use super::{Act, Item, Label, Manager, Memory, Name, ProcNo, ProcSet, Row, Sink, Verb, Why};
+use super::{Act, Item, Label, Manager, Memory, Name, ProcNo, Row, Sink, Verb, Why};
 
 impl<I: Name + Drop, M: Copy + Drop> Manager<I, M> {
     /// It sends a message to a process; where its object is down, it refuses.
@@ -10,30 +10,26 @@ impl<I: Name + Drop, M: Copy + Drop> Manager<I, M> {
         to: ProcNo,
         body: i64,
         sink: &mut S,
-    ) -> Result<(), Memory> {
-        sink.make_room(self.me, ProcSet::empty().with(to))?;
+    ) {
         if !self.process.is_up() {
             sink.row(self.me, refused(Verb::Send, Why::Down));
-            return Ok(());
+            return;
         }
         let label = self.process.send(to);
         let mark = sink.mark();
         sink.message(self.me, to, label, mark, body);
         sink.row(self.me, Row::Sent { to, body, label });
-        Ok(())
     }
 
     /// Its object fails; where that is down, it refuses.
-    pub fn fail<S: Sink<I, M>>(&mut self, sink: &mut S) -> Result<(), Memory> {
-        sink.make_room(self.me, ProcSet::empty())?;
+    pub fn fail<S: Sink<I, M>>(&mut self, sink: &mut S) {
         if !self.process.is_up() {
             sink.row(self.me, refused(Verb::Fail, Why::Down));
-            return Ok(());
+            return;
         }
         self.process.fail();
         sink.row(self.me, Row::Failed);
         sink.act(Act::Drop);
-        Ok(())
     }
 
     /// A message comes of a process of which it holds none.
@@ -51,7 +47,6 @@ impl<I: Name + Drop, M: Copy + Drop> Manager<I, M> {
             self.inbox.hold(from, Item { label, mark, body });
             return Ok(());
         }
-        sink.make_room(self.me, ProcSet::empty())?;
         if !self.process.is_up() {
             sink.row(self.me, Row::Dropped { from, label, mark });
             return Ok(());
@@ -81,11 +76,10 @@ impl<I: Name + Drop, M: Copy + Drop> Manager<I, M> {
         &mut self,
         from: ProcNo,
         sink: &mut S,
-    ) -> Result<bool, Memory> {
+    ) -> bool {
         let Some(item) = self.inbox.first_held(from).copied() else {
-            return Ok(false);
+            return false;
         };
-        sink.make_room(self.me, ProcSet::empty())?;
         let Item { label, mark, body } = item;
         if self.process.is_up() {
             self.inbox.keep_held(from);
@@ -94,7 +88,7 @@ impl<I: Name + Drop, M: Copy + Drop> Manager<I, M> {
             self.inbox.drop_held(from);
             sink.row(self.me, Row::Dropped { from, label, mark });
         }
-        Ok(true)
+        true
     }
 }
 

@@ -21,7 +21,7 @@ use crate::laws::laws_of_runs;
 use kt_base::ProcNo;
 use kt_object::Recoverable;
 use kt_plan::{Act, Give, Look, Step};
-use kt_system::Meeting;
+use kt_system::Taken;
 
 impl RunState {
     /// Makes a step that is enabled; the process's object is asked and told only where the step has to do with it.
@@ -60,23 +60,20 @@ impl RunState {
             (told_and_held self.new.journals self.new.objects.items
             (λ b. content (kind_of (b.vtable, b.value)) (value_of (b.vtable, b.value))))) }
     {
-        if let Step::Take { at, from } = step {
-            if !self.journals.are_kept() {
-                if let Some(meeting) = self.world.meet(at, from) {
-                    return self.take(at, from, &meeting);
-                }
+        match step {
+            Step::Take { at, from } if !self.journals.are_kept() && self.world.has_room() => {
+                self.take(at, from)
             }
+            _ => self.make_with_object(step),
         }
-        self.make_with_object(step)
     }
 
-    /// One takes the next parcel of another one, which it meets so.
+    /// One takes the next parcel of another one.
     #[inline(always)]
-    fn take(&mut self, at: ProcNo, from: ProcNo, meeting: &Meeting) -> Result<(), RunFault> {
-        if meeting.saves() {
-            return self.take_saving(at, from, meeting);
+    fn take(&mut self, at: ProcNo, from: ProcNo) -> Result<(), RunFault> {
+        if let Taken::Saves = self.world.take_next(at, from, None)? {
+            return self.take_saving(at, from);
         }
-        self.world.take_met(at, from, meeting, false)?;
         self.done += 1;
         if !self.world.told_acts() {
             return Ok(());
@@ -85,9 +82,9 @@ impl RunState {
     }
 
     #[inline(never)]
-    fn take_saving(&mut self, at: ProcNo, from: ProcNo, meeting: &Meeting) -> Result<(), RunFault> {
+    fn take_saving(&mut self, at: ProcNo, from: ProcNo) -> Result<(), RunFault> {
         let answer = self.objects[at.index()].ask(self.alloc, Look::NeedsSave);
-        self.world.take_met(at, from, meeting, answer.give.able)?;
+        let _taken = self.world.take_next(at, from, Some(answer.give.able))?;
         self.done += 1;
         self.obey(at, answer.saved)
     }

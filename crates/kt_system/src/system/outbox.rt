@@ -1,7 +1,7 @@
 //! Where the managers of a system put what they tell: channels and log.
 
 use kt_base::{Cause, InstNo, Kind, Label, Memory, MsgNo, ProcNo, ProcSet};
-use kt_fifo::{Channels, Parcel};
+use kt_fifo::{Parcel, Pool};
 use kt_manager::{Name, Row, Sink, Why};
 use kt_plan::Act;
 use kt_process::Asks;
@@ -32,7 +32,7 @@ impl Name for Named {
 /// Channels, log, tallies, and the acts of the step at hand.
 #[derive(Drop)]
 pub(super) struct Outbox {
-    pub(super) channels: Channels,
+    pub(super) channels: Pool,
     pub(super) log: SpaceTime,
     pub(super) tallies: Vec<Tally>,
     pub(super) acts: [Act; 2],
@@ -51,12 +51,20 @@ impl Outbox {
             decisions: 0,
         };
         Ok(Outbox {
-            channels: Channels::new(alloc, processes)?,
+            channels: Pool::new(alloc, processes)?,
             log: SpaceTime::new(alloc),
             tallies: vec![in alloc; none; instances]?,
             acts: [Act::Nothing, Act::Nothing],
             told: 0,
         })
+    }
+
+    /// Room for what a step tells: four rows, and two parcels to each process.
+    #[inline(always)]
+    pub(super) fn make_room(&mut self) -> Result<(), Memory> {
+        self.told = 0;
+        self.log.reserve(4)?;
+        self.channels.reserve(128)
     }
 
     #[inline(always)]
@@ -80,17 +88,6 @@ fn cause_of(why: Why<Named>) -> Cause {
 }
 
 impl Sink<Named, MsgNo> for Outbox {
-    #[inline(always)]
-    fn make_room(&mut self, me: ProcNo, targets: ProcSet) -> Result<(), Memory> {
-        self.log.reserve(4)?;
-        let mut rest = targets;
-        while let Some(to) = rest.first() {
-            self.channels.reserve_many(me, to, 2)?;
-            rest = rest.without(to);
-        }
-        Ok(())
-    }
-
     #[inline(always)]
     fn mark(&self) -> MsgNo {
         MsgNo::after(self.log.rows().len())

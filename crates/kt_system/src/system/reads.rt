@@ -1,6 +1,6 @@
 //! What can be read of a system.
 
-use super::{Answer, InstNo, Label, Meeting, Parcel, ProcNo, SpaceTime, System, Tally};
+use super::{InstNo, ProcNo, SpaceTime, System, Tally};
 
 impl System {
     pub fn processes(&self) -> usize {
@@ -60,11 +60,6 @@ impl System {
 
     pub fn can_take(&self, at: ProcNo, from: ProcNo) -> bool {
         self.senders(at).has(from) || self.held_senders(at).has(from)
-    }
-
-    /// Whether one's next parcel of another one makes it save its object.
-    pub fn would_save(&self, at: ProcNo, from: ProcNo) -> bool {
-        self.meet(at, from).saves()
     }
 
     pub fn is_quiet(&self) -> bool {

@@ -1,96 +1,66 @@
 //! The steps of a system: each is that of a manager.
 
-use super::{
-    Act, Answer, Global, InstNo, Kind, Label, Memory, MsgNo, Named, Parcel, ProcNo, System,
-};
+use super::{Act, Answer, Global, InstNo, Kind, Memory, Named, Parcel, ProcNo, System};
 
-/// What a process takes next of another one, and what becomes of it.
+/// What became of a step.
 #[derive(Clone, Copy)]
-pub enum Meeting {
-    Nothing,
-    Held,
-    Message { label: Label, msg: MsgNo, body: i64 },
-    Ask { inst: InstNo, kind: Kind, label: Label, answer: Answer },
-    Reply { inst: InstNo, willing: bool },
-    Decision { inst: InstNo, commit: bool },
-}
-
-impl Meeting {
-    /// Whether the object is to be saved first.
-    #[inline(always)]
-    pub fn saves(&self) -> bool {
-        match self {
-            Meeting::Ask {
-                answer: Answer::Saves,
-                ..
-            } => true,
-            _ => false,
-        }
-    }
+pub enum Taken {
+    /// It was made.
+    Made,
+    /// The object has to be saved first, and nothing changed.
+    Saves,
 }
 
 impl System {
-    /// How one meets the next parcel of another one.
+    /// One takes the next parcel of another one. Where its object has to be saved first, this is told, unless it is said
+    /// whether that was done.
     #[inline(always)]
-    pub fn meet(&self, at: ProcNo, from: ProcNo) -> Meeting {
-        let manager = &self.managers[at.index()];
-        if manager.inbox().holds().has(from) && !manager.is_ready() {
-            return Meeting::Held;
-        }
-        let Some(parcel) = self.out.channels.front(from, at) else {
-            return Meeting::Nothing;
-        };
-        match *parcel {
-            Parcel::App { label, msg, body } => Meeting::Message { label, msg, body },
-            Parcel::Ask { inst, kind, label } => Meeting::Ask {
-                inst,
-                kind,
-                label,
-                answer: manager.meet(from, &Named { inst }, kind, label),
-            },
-            Parcel::Reply { inst, willing } => Meeting::Reply { inst, willing },
-            Parcel::Decide { inst, commit } => Meeting::Decision { inst, commit },
-        }
-    }
-
-    /// One takes the next parcel of another one, which it meets so.
-    #[inline(always)]
-    pub fn take_met(
+    pub fn take_next(
         &mut self,
         at: ProcNo,
         from: ProcNo,
-        meeting: &Meeting,
-        able: bool,
-    ) -> Result<(), Memory> {
-        self.out.told = 0;
+        saved: Option<bool>,
+    ) -> Result<Taken, Memory> {
+        self.out.make_room()?;
         let manager = &mut self.managers[at.index()];
         let out = &mut self.out;
-        match *meeting {
-            Meeting::Nothing => return Ok(()),
-            Meeting::Held => {
-                manager.take_held(from, out)?;
-                self.note_holder(at);
-                return Ok(());
-            }
-            Meeting::Message { label, msg, body } => {
+        if manager.inbox().holds().has(from) && !manager.is_ready() {
+            manager.take_held(from, out);
+            self.note_holder(at);
+            return Ok(Taken::Made);
+        }
+        let Some(parcel) = out.channels.front(from, at) else {
+            return Ok(Taken::Made);
+        };
+        match *parcel {
+            Parcel::App { label, msg, body } => {
                 manager.take_message(from, label, msg, body, out)?;
+                self.out.channels.pop(from, at);
+                self.note_holder(at);
             }
-            Meeting::Ask {
-                inst,
-                kind,
-                label,
-                answer,
-            } => manager.take_ask(from, &Named { inst }, kind, label, answer, able, out)?,
-            Meeting::Reply { inst, willing } => {
-                manager.take_reply(from, &Named { inst }, willing, out)?;
+            Parcel::Ask { inst, kind, label } => {
+                let inst = Named { inst };
+                let answer = manager.meet(from, &inst, kind, label);
+                let able = match (answer, saved) {
+                    (Answer::Saves, None) => return Ok(Taken::Saves),
+                    (_, Some(able)) => able,
+                    (_, None) => false,
+                };
+                manager.take_ask(from, &inst, kind, label, answer, able, out)?;
+                self.out.channels.pop(from, at);
             }
-            Meeting::Decision { inst, commit } => {
-                manager.take_decision(from, &Named { inst }, commit, out)?;
+            Parcel::Reply { inst, willing } => {
+                manager.take_reply(from, &Named { inst }, willing, out);
+                self.out.channels.pop(from, at);
+                self.note_holder(at);
+            }
+            Parcel::Decide { inst, commit } => {
+                manager.take_decision(from, &Named { inst }, commit, out);
+                self.out.channels.pop(from, at);
+                self.note_holder(at);
             }
         }
-        self.out.channels.pop(from, at);
-        self.note_holder(at);
-        Ok(())
+        Ok(Taken::Made)
     }
 
     /// Notes whether a process holds messages.
@@ -115,6 +85,7 @@ impl System {
         self.out.told > 0
     }
 
+    #[inline(always)]
     fn act(&self, place: usize) -> Act {
         if place < self.out.told {
             self.out.acts[place]
@@ -131,10 +102,26 @@ impl System {
         able: bool,
         acts: &mut [Act; 2],
     ) -> Result<(), Memory> {
-        let meeting = self.meet(at, from);
-        self.take_met(at, from, &meeting, able)?;
+        let _taken = self.take_next(at, from, Some(able))?;
         *acts = self.acts();
         Ok(())
+    }
+
+    /// Whether one's next parcel of another one makes it save its object.
+    pub fn would_save(&self, at: ProcNo, from: ProcNo) -> bool {
+        let manager = &self.managers[at.index()];
+        if manager.inbox().holds().has(from) && !manager.is_ready() {
+            return false;
+        }
+        match self.out.channels.front(from, at) {
+            Some(Parcel::Ask { inst, kind, label }) => {
+                match manager.meet(from, &Named { inst: *inst }, *kind, *label) {
+                    Answer::Saves => true,
+                    _ => false,
+                }
+            }
+            _ => false,
+        }
     }
 
     pub fn take_quietly(
@@ -143,23 +130,27 @@ impl System {
         at: ProcNo,
         from: ProcNo,
     ) -> Result<bool, Memory> {
-        let meeting = self.meet(at, from);
-        match meeting {
-            Meeting::Ask {
+        if self.takes_held(at, from) {
+            return Ok(false);
+        }
+        let Some(parcel) = self.out.channels.front(from, at).copied() else {
+            return Ok(false);
+        };
+        match parcel {
+            Parcel::Ask {
                 kind: Kind::Checkpoint,
-                answer,
                 ..
             } => {
-                if let Answer::Saves = answer {
+                if self.would_save(at, from) {
                     return Ok(false);
                 }
             }
-            Meeting::Reply { .. } => {
+            Parcel::Reply { .. } => {
                 if self.awaited(at) == 1 {
                     return Ok(false);
                 }
             }
-            Meeting::Decision { inst, .. } => {
+            Parcel::Decide { inst, .. } => {
                 if let Some(current) = self.in_inst(at) {
                     if current.get() == inst.get() {
                         return Ok(false);
@@ -168,8 +159,12 @@ impl System {
             }
             _ => return Ok(false),
         }
-        self.take_met(at, from, &meeting, false)?;
+        let _taken = self.take_next(at, from, Some(false))?;
         Ok(true)
+    }
+
+    fn takes_held(&self, at: ProcNo, from: ProcNo) -> bool {
+        self.held_senders(at).has(from)
     }
 
     pub fn send(
@@ -179,15 +174,15 @@ impl System {
         body: i64,
         acts: &mut [Act; 2],
     ) -> Result<(), Memory> {
-        self.out.told = 0;
-        self.managers[p.index()].send(to, body, &mut self.out)?;
+        self.out.make_room()?;
+        self.managers[p.index()].send(to, body, &mut self.out);
         *acts = [Act::Nothing, Act::Nothing];
         Ok(())
     }
 
     pub fn fail(&mut self, p: ProcNo, acts: &mut [Act; 2]) -> Result<(), Memory> {
-        self.out.told = 0;
-        self.managers[p.index()].fail(&mut self.out)?;
+        self.out.make_room()?;
+        self.managers[p.index()].fail(&mut self.out);
         *acts = self.acts();
         Ok(())
     }
@@ -217,7 +212,7 @@ impl System {
             *acts = [Act::Nothing, Act::Nothing];
             return Ok(());
         };
-        self.out.told = 0;
+        self.out.make_room()?;
         let began = self.managers[p.index()].begin(&Named { inst }, kind, able, &mut self.out)?;
         if began {
             self.begun = inst.get();
