@@ -122,6 +122,11 @@ impl<M: Copy + Drop> Inbox<M> {
         }
     }
 
+    /// So many of those that it keeps of a process came before its tentative checkpoint.
+    pub fn set_mark(&mut self, from: ProcNo, before: usize) {
+        self.lists[from.index()].before = before;
+    }
+
     /// It takes a tentative checkpoint.
     pub fn set_marks(&mut self) {
         let mut rest = self.some;

@@ -42,6 +42,35 @@ impl<I: Name + Drop, M: Copy + Drop> Manager<I, M> {
         })
     }
 
+    /// That of these parts.
+    pub fn of(
+        alloc: Global,
+        me: ProcNo,
+        process: Process,
+        inst: Option<I>,
+        inbox: Inbox<M>,
+        asks: [Option<I>; 64],
+        answered: ProcSet,
+    ) -> Manager<I, M> {
+        Manager {
+            alloc,
+            me,
+            process,
+            inst,
+            inbox,
+            asks,
+            answered,
+        }
+    }
+
+    pub fn asks(&self) -> &[Option<I>; 64] {
+        &self.asks
+    }
+
+    pub fn answered(&self) -> ProcSet {
+        self.answered
+    }
+
     pub fn me(&self) -> ProcNo {
         self.me
     }

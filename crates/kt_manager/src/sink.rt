@@ -4,11 +4,19 @@ use crate::rows::Row;
 use kt_base::{Kind, Label, ProcNo, ProcSet};
 use kt_plan::Act;
 use kt_process::Asks;
+use kt_spacetime::InstName;
 
 /// A name of an instance.
 pub trait Name: Copy {
     /// Whether it names the same instance.
     fn is_one(&self, other: &Self) -> bool;
+}
+
+impl Name for InstName {
+    #[inline(always)]
+    fn is_one(&self, other: &InstName) -> bool {
+        self.initiator.get() == other.initiator.get() && self.count.get() == other.count.get()
+    }
 }
 
 /// What takes the rows, the parcels and the acts of a step of process `me`, with room for four rows, and for two parcels to
