@@ -53,12 +53,11 @@ fn place(pairs: &[(ProcNo, Label)], peer: ProcNo) -> usize
     ensures place { result ≡ place_of pairs.now peer }
     ensures within { result ≤ length pairs.now }
 {
-    for (place, pair) in pairs.iter().enumerate() {
-        if pair.0.get() >= peer.get() {
-            return place;
-        }
+    let mut place = pairs.len().min(peer.index());
+    while place > 0 && pairs[place - 1].0.get() >= peer.get() {
+        place -= 1;
     }
-    pairs.len()
+    place
 }
 
 /// Whether the pair of a peer stands at a place.
