@@ -4,7 +4,7 @@ use crate::inbox::{Inbox, Item};
 use crate::meeting::Answer;
 use crate::rows::{Row, Why};
 use crate::sink::{Name, Sink};
-use kt_base::{Cause, InstNo, Kind, Label, Memory, ProcNo, ProcSet, Verb};
+use kt_base::{Cause, InstNo, Kind, Label, Memory, ProcNo, Verb};
 use kt_plan::Act;
 use kt_process::{Action, Asks, Process, Then};
 use std::alloc::Global;
@@ -20,8 +20,6 @@ pub struct Manager<I, M> {
     process: Process,
     inst: Option<I>,
     inbox: Inbox<M>,
-    asks: [Option<I>; 64],
-    answered: ProcSet,
 }
 
 impl<I: Name + Drop, M: Copy + Drop> Manager<I, M> {
@@ -37,8 +35,6 @@ impl<I: Name + Drop, M: Copy + Drop> Manager<I, M> {
             process: Process::new(alloc, processes, used)?,
             inst: None,
             inbox: Inbox::new(alloc, processes)?,
-            asks: [None; 64],
-            answered: ProcSet::empty(),
         })
     }
 
@@ -49,8 +45,6 @@ impl<I: Name + Drop, M: Copy + Drop> Manager<I, M> {
         process: Process,
         inst: Option<I>,
         inbox: Inbox<M>,
-        asks: [Option<I>; 64],
-        answered: ProcSet,
     ) -> Manager<I, M> {
         Manager {
             alloc,
@@ -58,17 +52,7 @@ impl<I: Name + Drop, M: Copy + Drop> Manager<I, M> {
             process,
             inst,
             inbox,
-            asks,
-            answered,
         }
-    }
-
-    pub fn asks(&self) -> &[Option<I>; 64] {
-        &self.asks
-    }
-
-    pub fn answered(&self) -> ProcSet {
-        self.answered
     }
 
     pub fn me(&self) -> ProcNo {
@@ -113,7 +97,7 @@ impl<I: Name + Drop, M: Copy + Drop> Manager<I, M> {
 
     /// Whether it is in this instance.
     #[inline(always)]
-    fn is_in(&self, inst: &I) -> bool {
+    pub fn is_in(&self, inst: &I) -> bool {
         match &self.inst {
             Some(name) => name.is_one(inst),
             None => false,

@@ -1,8 +1,8 @@
 //! A node: a manager, numbers and a clock.
 
 use crate::output::{NoMark, NodeParcel, Output, Parcels};
-use kt_base::{Label, Memory, ProcNo};
-use kt_manager::Manager;
+use kt_base::{Label, Memory, ProcNo, ProcSet};
+use kt_manager::{Manager, Name};
 use kt_plan::Act;
 use kt_spacetime::{InstName, NamedEvent};
 use std::alloc::Global;
@@ -49,6 +49,8 @@ pub struct Node {
     pub size: usize,
     pub begun: u64,
     pub manager: Manager<InstName, NoMark>,
+    pub asks: [Option<InstName>; 64],
+    pub answered: ProcSet,
     pub clock: u64,
     pub sent: [u64; 64],
     pub taken: [u64; 64],
@@ -67,6 +69,8 @@ impl Node {
             size,
             begun: 0,
             manager: Manager::new(alloc, me, size, used)?,
+            asks: [None; 64],
+            answered: ProcSet::empty(),
             clock: 0,
             sent: [0; 64],
             taken: [0; 64],
@@ -121,18 +125,47 @@ impl Node {
                 if !self.is_begun(&inst) {
                     return Err(Fault::NotBegun);
                 }
+                let was_outside = self.manager.is_outside();
                 let answer = self.manager.meet(from, &inst, kind, label);
                 self.manager
                     .take_ask(from, &inst, kind, label, answer, able, out)?;
+                self.asks[from.index()] = Some(inst);
+                if was_outside {
+                    self.answered = ProcSet::empty();
+                }
             }
             NodeParcel::Reply { inst, willing } => {
-                self.manager.take_reply(from, &inst, willing, out);
+                if self.awaits(from, &inst) {
+                    self.answered = self.answered.with(from);
+                    self.manager.take_reply(&inst, willing, out);
+                }
             }
             NodeParcel::Decide { inst, commit } => {
-                self.manager.take_decision(from, &inst, commit, out);
+                if self.heeds(from, &inst) {
+                    self.manager.take_decision(&inst, commit, out);
+                }
             }
         }
         Ok(())
+    }
+
+    /// Whether it awaits a reply of a process in this instance.
+    fn awaits(&self, from: ProcNo, inst: &InstName) -> bool {
+        if !self.manager.is_in(inst) || self.answered.has(from) {
+            return false;
+        }
+        match self.manager.process().part() {
+            Some(part) => part.awaited() != 0 && part.asked().has(from),
+            None => false,
+        }
+    }
+
+    /// Whether the last ask of this process is that of the instance.
+    fn heeds(&self, from: ProcNo, inst: &InstName) -> bool {
+        match &self.asks[from.index()] {
+            Some(name) => name.is_one(inst),
+            None => false,
+        }
     }
 
     fn is_begun(&self, inst: &InstName) -> bool {

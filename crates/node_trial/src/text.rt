@@ -158,9 +158,9 @@ pub fn save(node: &Node, out: &mut Vec<u8>) -> Result<(), Memory> {
     put_process(out, node.manager.process())?;
     put_inbox(out, node.manager.inbox())?;
     for place in 0..size {
-        put_name(out, &node.manager.asks()[place])?;
+        put_name(out, &node.asks[place])?;
     }
-    word(out, bits_of(node.manager.answered()))?;
+    word(out, bits_of(node.answered))?;
     words(out, &node.sent[..size])?;
     words(out, &node.taken[..size])?;
     put_reach(out, &node.live, size)?;
@@ -379,7 +379,9 @@ pub fn load(alloc: Global, bytes: &[u8]) -> Result<Node, LoadFault> {
     Ok(Node {
         size,
         begun,
-        manager: Manager::of(alloc, me, process, inst, inbox, asks, answered),
+        manager: Manager::of(alloc, me, process, inst, inbox),
+        asks,
+        answered,
         clock,
         sent,
         taken,

@@ -1,21 +1,16 @@
 //! Replies, decisions, and the end of an instance.
 
-use super::{Act, Action, Manager, Name, ProcNo, Row, Sink};
+use super::{Act, Action, Manager, Name, Row, Sink};
 
 impl<I: Name + Drop, M: Copy + Drop> Manager<I, M> {
     /// A reply of a process comes.
     #[inline(always)]
     pub fn take_reply<S: Sink<I, M>>(
         &mut self,
-        from: ProcNo,
         inst: &I,
         willing: bool,
         sink: &mut S,
     ) {
-        if !self.awaits(from, inst) {
-            return;
-        }
-        self.answered = self.answered.with(from);
         match self.process.hear_reply(willing) {
             Action::Reply { to, willing, .. } => sink.reply(self.me, to, inst, willing),
             Action::Settle { commit, .. } => self.decide(inst, commit, sink),
@@ -23,43 +18,18 @@ impl<I: Name + Drop, M: Copy + Drop> Manager<I, M> {
         }
     }
 
-    /// Whether it awaits a reply of a process in this instance.
-    #[inline(always)]
-    fn awaits(&self, from: ProcNo, inst: &I) -> bool {
-        if !self.is_in(inst) || self.answered.has(from) {
-            return false;
-        }
-        match self.process.part() {
-            Some(part) => part.awaited() != 0 && part.asked().has(from),
-            None => false,
-        }
-    }
-
     /// A decision of a process comes.
     #[inline(always)]
     pub fn take_decision<S: Sink<I, M>>(
         &mut self,
-        from: ProcNo,
         inst: &I,
         commit: bool,
         sink: &mut S,
     ) {
-        if !self.heeds(from, inst) {
+        if !self.is_in(inst) {
             return;
         }
         self.close(inst, commit, sink);
-    }
-
-    /// Whether it is in this instance, by the last ask of this process.
-    #[inline(always)]
-    fn heeds(&self, from: ProcNo, inst: &I) -> bool {
-        if !self.is_in(inst) {
-            return false;
-        }
-        match &self.asks[from.index()] {
-            Some(name) => name.is_one(inst),
-            None => false,
-        }
     }
 
     /// It decides its instance.

@@ -1,7 +1,7 @@
 //! Beginning an instance, and asks to join one.
 
 use super::{
-    Act, Action, Answer, Asks, InstNo, Kind, Label, Manager, Memory, Name, ProcNo, ProcSet, Row,
+    Act, Action, Answer, Asks, InstNo, Kind, Label, Manager, Memory, Name, ProcNo, Row,
     Sink, Then, Verb, Why, here,
 };
 use std::alloc::Global;
@@ -95,7 +95,6 @@ impl<I: Name + Drop, M: Copy + Drop> Manager<I, M> {
             }
             Answer::Rolls => return self.take_joining(from, inst, kind, label, sink),
         };
-        self.asks[from.index()] = Some(*inst);
         if self.process.is_ready() && cause.is_none() {
             self.note(from, label)?;
         }
@@ -132,7 +131,6 @@ impl<I: Name + Drop, M: Copy + Drop> Manager<I, M> {
             )?,
             Kind::Rollback => self.process.hear_ask_to_roll(from, here(), label)?,
         };
-        self.asks[from.index()] = Some(*inst);
         if let Action::Join { ask, goes } = action {
             self.join(inst, kind, ask, goes, sink);
         }
@@ -142,7 +140,6 @@ impl<I: Name + Drop, M: Copy + Drop> Manager<I, M> {
     /// It has joined an instance: it asks others, and goes on.
     fn join<S: Sink<I, M>>(&mut self, inst: &I, kind: Kind, asks: Asks, goes: Then, sink: &mut S) {
         self.inst = Some(*inst);
-        self.answered = ProcSet::empty();
         sink.asks(self.me, inst, kind, asks);
         match kind {
             Kind::Checkpoint => {

@@ -50,12 +50,12 @@ impl System {
                 self.out.channels.pop(from, at);
             }
             Parcel::Reply { inst, willing } => {
-                manager.take_reply(from, &Named { inst }, willing, out);
+                manager.take_reply(&Named { inst }, willing, out);
                 self.out.channels.pop(from, at);
                 self.note_holder(at);
             }
             Parcel::Decide { inst, commit } => {
-                manager.take_decision(from, &Named { inst }, commit, out);
+                manager.take_decision(&Named { inst }, commit, out);
                 self.out.channels.pop(from, at);
                 self.note_holder(at);
             }
