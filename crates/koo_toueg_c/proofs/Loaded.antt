@@ -5,7 +5,8 @@ use Rattle.std.proofs.lemmas.Bool.{cases_lt}
 use Rattle.std.proofs.lemmas.List.{get_or_past, length-map}
 use Rattle.kt_plan.specs.declared.steps.Look.TheVariants.{Idle}
 use Rattle.kt_node.specs.Nodes.{NodeState}
-use Rattle.kt_node.specs.Faults.{fault_at}
+use Rattle.kt_node.specs.Faults.{fault_at, wants_memory}
+use Rattle.kt_node.specs.declared.faults.ManagerFault.TheVariants as manager
 use Rattle.kt_node.specs.Links.{NodeLinks, ShowsLinks, IsGiven, IsMetAs, IsStep, IsUntaken, IsParcelRefusedAs}
 use Rattle.kt_node.specs.Looks.{clock_of, input_of, look_of, meeting_at, node_look}
 use Rattle.kt_node.specs.Meetings.{is_far, is_far_message, is_next_one, is_stale, label_of}
@@ -33,7 +34,7 @@ use Rattle.kt_node_text.specs.Sameness.{IsOwn, IsSameState}
 use Rattle.kt_node_text.specs.declared.fault.LoadFault.{LoadFault}
 use Rattle.kt_node_text.specs.declared.fault.LoadFault.TheVariants as load
 use Rattle.koo_toueg_c.specs.NodeNumbers.{input_meant, truth_meant, of_load, refusal_number, refusal_status, process_meant}
-use Rattle.koo_toueg_c.specs.Nodes.{SaysNode, SavesNode, SaysState, TakesOne, TakesInOrder, IsRuleOf, IsStepOf, IsAgainOf, IsNoStep, MeetsAs, RefusesGiven, rule_at}
+use Rattle.koo_toueg_c.specs.Nodes.{SaysNode, SavesNode, SaysState, TakesOne, TakesInOrder, IsRuleOf, IsStepOf, IsAgainOf, IsNoStep, IsSealed, MeetsAs, RefusesGiven, rule_at}
 use Rattle.koo_toueg_c.specs.declared.node.input.KtInput.{KtInput}
 use Rattle.koo_toueg_c.specs.declared.node.refusal.Refusal.{Refusal}
 use Rattle.koo_toueg_c.specs.declared.node.refusal.Refusal.TheVariants as refusal
@@ -189,8 +190,9 @@ pub refused_of : (before : List ℕ) (numbers : KtInput) (v : NodeLinks) (x : In
     IsLoaded before v → SaysNode before v → input_meant numbers ≡ Some x → able ≡ truth_meant numbers.able → IsMetAs (meeting_at v x) (Err f) →
     ((y : NodeState) → ShowsNode v.manager y → IsParcelRefusedAs (fault_at y (input_of able x)) (Err f)) →
     (IsErrOf {T = Taken} (Err f) fault.ClockSpent → 2 ^ 64 - 2 ≤ max v.clock (clock_of x)) →
+    ((y : NodeState) → ShowsNode v.manager y → IsErrOf {T = Taken} (Err f) (fault.Manager manager.Memory) → wants_memory y (input_of able x) ≡ true) →
     r ≡ refusal.Node f → IsNoStep before numbers r
-refused_of before numbers v x able f r loaded said meant is met rule spent e =
+refused_of before numbers v x able f r loaded said meant is met rule spent memory e =
     subst (IsNoStep before numbers) (sym e) (
       x,
       elim (met_err (meeting_at v x) f met) [
@@ -201,6 +203,7 @@ refused_of before numbers v x able f r loaded said meant is met rule spent e =
             given = h.1;
             rule = λ y seen. rule y (shows before v y loaded seen).manager;
             spent = λ s w told. subst (λ (n : ℕ). 2 ^ 64 - 2 ≤ max n (clock_of x)) (is_same before v w loaded told).clock (spent (ap Err s));
+            memory = λ m y seen. memory y (shows before v y loaded seen).manager (ap Err m);
           }),
         )
       ],
@@ -210,6 +213,16 @@ refused_of before numbers v x able f r loaded said meant is met rule spent e =
 pub not_read : (f : LoadFault) (r : Refusal) → r ≡ of_load f → refusal_status r ≡ 2 → f ≡ load.Form
 not_read load.Form r e two = refl
 not_read load.Memory r e two = let wrong : 4 ≡ 2 = ap refusal_status (sym e) ∙ two in absurd (omega (arith, wrong))
+
+-- bytes that are not read are of no node, or memory was asked for
+pub unread_of : (before : List ℕ) (numbers : KtInput) (f : LoadFault) (r : Refusal) → r ≡ of_load f →
+    (f ≡ load.Form → (w : NodeLinks) → IsOwn w → before ≡ text_of w → ⊥) → (f ≡ load.Memory → IsSealed before) → IsNoStep before numbers r
+unread_of before numbers load.Form r e form memory = subst (IsNoStep before numbers) (sym e) (λ w says. form refl w says.own says.said)
+unread_of before numbers load.Memory r e form memory = subst (IsNoStep before numbers) (sym e) (memory refl)
+
+pub is_want : (f : LoadFault) (r : Refusal) → r ≡ of_load f → refusal_status r ≡ 4 → f ≡ load.Memory
+is_want load.Form r e four = let wrong : 2 ≡ 4 = ap refusal_status (sym e) ∙ four in absurd (omega (arith, wrong))
+is_want load.Memory r e four = refl
 
 pub status_two : (why : Refusal) → refusal_status why ≢ 4 → refusal_status why ≡ 2
 status_two why other = at (refusal_number why == 12) (refusal_status why) refl other

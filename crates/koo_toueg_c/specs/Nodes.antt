@@ -1,6 +1,7 @@
 -- A node that is bytes: the states that they say, and how an input leads from one to the next one.
 use Rattle.std.specs.Prelude.{◌≡◌, ◌<◌, ◌≤◌, ◌+◌, ◌-◌, ◌^◌, ◌⊎◌, ℕ, max, Bool, true, false, Option, Some, None, is_some, Result, Ok, Err, List, [], ◌∷◌, length, map, slice_get, slice_index}
 use Rattle.kt_meaning.specs.Past.{at_one}
+use Rattle.kt_checksum.specs.Checksums.{sealed}
 use Rattle.kt_text.specs.Writing.{text_of}
 use Rattle.kt_node.specs.Nodes.{NodeState, Doing, is_in_rollback}
 use Rattle.kt_node.specs.NodeSteps.{node_after}
@@ -11,9 +12,10 @@ use Rattle.kt_merge.specs.Spelling.{part_spelling}
 use Rattle.kt_spacetime.specs.declared.named_rows.ClockedRow.{ClockedRow}
 use Rattle.kt_node.specs.Managers.{ShowsNode}
 use Rattle.kt_node.specs.Effects.{put_to, rows_told}
-use Rattle.kt_node.specs.Faults.{fault_at}
+use Rattle.kt_node.specs.Faults.{fault_at, wants_memory}
 use Rattle.kt_node.specs.Links.{NodeLinks, ShowsLinks, IsGiven, IsParcelRefusedAs}
 use Rattle.kt_node.specs.Looks.{clock_of, input_of, meeting_at, node_look}
+use Rattle.kt_node.specs.declared.faults.ManagerFault.TheVariants as manager
 use Rattle.kt_node.specs.declared.inputs.Input.{Input}
 use Rattle.kt_node.specs.declared.inputs.Input.TheVariants.{Send, Begin, Fail, Redeliver, Deliver}
 use Rattle.kt_node.specs.declared.node.Envelope.{Envelope}
@@ -175,18 +177,24 @@ pub record RefusesGiven (before : List ℕ) (x : Input) (able : Bool) (f : NodeF
       IsParcelRefusedAs (fault_at y (input_of able x)) (Err f)
   pub spent : f ≡ fault.ClockSpent → (w : NodeLinks) → SaysNode before w →
       2 ^ 64 - 2 ≤ max w.clock (clock_of x)
+  pub memory : f ≡ fault.Manager manager.Memory → (y : NodeState) → SaysState before y →
+      wants_memory y (input_of able x) ≡ true
 
 -- it refuses an input: it does not meet it, or it is given to its manager
 abbrev pub RefusesFor : List ℕ → KtInput → Input → NodeFault → Type 0
 RefusesFor before numbers x f = MeetsAs before numbers x (Err f)
     ⊎ (MeetsAs before numbers x (Ok true) × RefusesGiven before x (truth_meant numbers.able) f)
 
--- why there is no step; nothing is said of want of memory
+-- bytes have their checksum behind them
+abbrev pub IsSealed : List ℕ → Type 0
+IsSealed bytes = (text : List ℕ) × (bytes ≡ sealed text)
+
+-- why there is no step; memory is asked for only where the bytes have their checksum behind them
 abbrev pub IsNoStep : List ℕ → KtInput → Refusal → Type 0
 IsNoStep before numbers refusal.State = (w : NodeLinks) → SaysNode before w → ⊥
 IsNoStep before numbers refusal.Input = input_meant numbers ≡ None
 IsNoStep before numbers (refusal.Node f) = (x : Input) × RefusesFor before numbers x f
-IsNoStep before numbers refusal.Memory = Unit {0}
+IsNoStep before numbers refusal.Memory = IsSealed before
 
 -- what an input needs of the object of a node that bytes say, as a status
 abbrev pub IsLookOf : List ℕ → Input → ℕ → Type 0

@@ -8,7 +8,7 @@ ghost use Rattle.koo_toueg_c.specs.declared.node.refusal.Refusal.{Refusal as Ref
 ghost use Rattle.koo_toueg_c.specs.declared.node.refusal.Refusal.TheVariants as refusal;
 ghost use Rattle.koo_toueg_c.specs.Buffers.{IsLeft, IsPut};
 ghost use Rattle.koo_toueg_c.specs.NodeNumbers.{input_meant, look_status, no_output, output_of_refusal, output_too_long, part_row_meant, refusal_status};
-ghost use Rattle.koo_toueg_c.specs.Nodes.{IsAgainOf, IsLookOf, IsNoNewNode, IsNoStep, IsRowText, IsStepOf, SaysNewNode, SaysNode, TellsOutput, TellsStep};
+ghost use Rattle.koo_toueg_c.specs.Nodes.{IsAgainOf, IsLookOf, IsNoNewNode, IsNoStep, IsRowText, IsSealed, IsStepOf, SaysNewNode, SaysNode, TellsOutput, TellsStep};
 
 use crate::buffers::put;
 use kt_base::Label;
@@ -131,6 +131,7 @@ pub extern "C" fn kt_node_look(alloc: Global, state: &[u8], input: &KtInput) -> 
         IsLookOf state.now x result }
     ensures none { result ≤ 1 → input_meant input.now ≡ None → ⊥ }
     ensures node { result ≤ 1 → (node : NodeLinks) × SaysNode state.now node }
+    ensures memory { result ≡ 4 → IsSealed state.now }
     ensures status { result ≤ 4 }
     ensures other { result ≢ 3 }
 {
@@ -232,6 +233,7 @@ fn look(alloc: Global, state: &[u8], numbers: &KtInput) -> Result<Look, Refusal>
     ensures node { IfOk result (λ _. (node : NodeLinks) × SaysNode state.now node) }
     ensures refused { IfErr result (λ why. refusal_status why ≡ 2 →
         (x : Inputs) → input_meant numbers.now ≡ Some x → IsLookOf state.now x 2) }
+    ensures memory { IfErr result (λ why. refusal_status why ≡ 4 → IsSealed state.now) }
 {
     let node = load(alloc, state)?;
     let Some(input) = numbers.meant() else {

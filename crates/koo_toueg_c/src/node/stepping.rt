@@ -1,11 +1,12 @@
 //! Steps of a node that is bytes.
 
-ghost use Rattle.std.specs.Prelude.{◌≡◌, ◌≤◌, ◌-◌, ◌^◌, max, IfOk, IfErr, IsErrOf};
+ghost use Rattle.std.specs.Prelude.{◌≡◌, ◌≤◌, ◌-◌, ◌^◌, max, true, IfOk, IfErr, IsErrOf};
 ghost use Rattle.kt_node.specs.Nodes.{NodeState};
-ghost use Rattle.kt_node.specs.Faults.{fault_at};
+ghost use Rattle.kt_node.specs.Faults.{fault_at, wants_memory};
 ghost use Rattle.kt_node.specs.Links.{IsMetAs, IsParcelRefusedAs, IsStep, IsUntaken, ShowsLinks};
 ghost use Rattle.kt_node.specs.Looks.{clock_of, input_of, meeting_at};
 ghost use Rattle.kt_node.specs.Managers.{ShowsNode};
+ghost use Rattle.kt_node.specs.declared.faults.ManagerFault.TheVariants as of_manager;
 ghost use Rattle.kt_node.specs.declared.node.NodeFault.TheVariants as fault;
 ghost use Rattle.koo_toueg_c.specs.Nodes.{IsNoStep, IsTaken, SavesNode, TakesInOrder};
 
@@ -69,6 +70,9 @@ fn take(alloc: Global, node: &mut Node, input: &Input, able: bool) -> Result<Tak
         IsParcelRefusedAs (fault_at y (input_of able input.now)) result }
     ensures spent { IsErrOf result fault.ClockSpent →
         2 ^ 64 - 2 ≤ max node.old.clock (clock_of input.now) }
+    ensures memory { (y : NodeState) → ShowsNode node.old.manager y →
+        IsErrOf result (fault.Manager of_manager.Memory) →
+        wants_memory y (input_of able input.now) ≡ true }
 {
     match input {
         Input::Send { to, body } => Ok(Taken::Step(node.send(*to, *body)?)),

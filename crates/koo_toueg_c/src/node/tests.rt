@@ -71,6 +71,7 @@ fn opens(rt: HostRuntime) {
         assert!(rt; kt_node_new(rt.alloc(), me, processes, &mut state, &mut len) == 2 && len == 0);
     }
     assert!(rt; kt_node_new(rt.alloc(), 0, 2, &mut state[..8], &mut len) == 5 && len > 2600);
+    assert!(rt; kt_node_new(rt.alloc(), 63, 64, &mut state[..8], &mut len) == 5 && len > 4096);
     assert!(rt; kt_node_new(rt.alloc(), 0, 2, &mut state, &mut len) == 0 && state[0] == 2);
 }
 
@@ -113,6 +114,7 @@ fn saves(rt: HostRuntime) {
     let ask = one.output.parcels[0];
     assert!(rt; ask.kind == 2 && ask.rollback == 0 && ask.initiator == 1 && ask.count == 1);
     assert!(rt; one.step(rt.alloc(), &command(1, 0)) == 2 && one.output.fault == 5);
+    assert!(rt; kt_node_look(rt.alloc(), one.bytes(), &command(1, 0)) == 2);
     assert!(rt; kt_node_look(rt.alloc(), zero.bytes(), &coming(1, ask)) == 0);
     assert!(rt; zero.step(rt.alloc(), &coming(1, ask)) == 0);
     assert!(rt; kt_node_look(rt.alloc(), zero.bytes(), &command(3, 0)) == 1);
@@ -123,6 +125,32 @@ fn saves(rt: HostRuntime) {
     assert!(rt; one.output.rows[1].kind == 9 && one.output.acts[0].kind == 3);
     assert!(rt; zero.step(rt.alloc(), &coming(1, one.output.parcels[0])) == 0);
     assert!(rt; zero.output.acts[0].kind == 3 && zero.output.busy == 0);
+}
+
+// A state that was kept by this version is read by the next one: these are the ends of what nodes are as bytes, with the checksum.
+#[test]
+fn has_its_form(rt: HostRuntime) {
+    let (mut zero, mut one) = (opened(rt.alloc(), 0), opened(rt.alloc(), 1));
+    zero.step(rt.alloc(), &command(1, 1));
+    assert!(rt; zero.bytes().ends_with(&[78, 66, 45, 28]));
+    one.step(rt.alloc(), &coming(0, zero.output.parcels[1]));
+    one.step(rt.alloc(), &command(2, 0));
+    assert!(rt; one.bytes().ends_with(&[183, 183, 59, 227]));
+    zero.step(rt.alloc(), &coming(1, one.output.parcels[0]));
+    assert!(rt; zero.bytes().ends_with(&[249, 55, 6, 59]));
+    one.step(rt.alloc(), &coming(0, zero.output.parcels[1]));
+    zero.step(rt.alloc(), &coming(1, one.output.parcels[0]));
+    zero.step(rt.alloc(), &command(1, 1));
+    one.step(rt.alloc(), &coming(0, zero.output.parcels[1]));
+    zero.step(rt.alloc(), &command(3, 0));
+    let roll = KtInput {
+        rollback: 1,
+        ..command(2, 0)
+    };
+    zero.step(rt.alloc(), &roll);
+    assert!(rt; zero.bytes().ends_with(&[175, 158, 12, 200]));
+    one.step(rt.alloc(), &coming(0, zero.output.parcels[1]));
+    assert!(rt; one.bytes().ends_with(&[196, 104, 96, 89]));
 }
 
 #[test]

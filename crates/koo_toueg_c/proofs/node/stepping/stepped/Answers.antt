@@ -1,15 +1,34 @@
-use Rattle.std.proofs.Common.{◌≡◌, ◌∙◌, sym}
+use Rattle.std.specs.Prelude.{Err}
+use Rattle.std.proofs.Common.{◌≡◌, ◌∙◌, ap, subst, sym}
+use Rattle.kt_node_text.specs.Form.{bytes_of, numbers_of}
+use Rattle.kt_node_text.specs.declared.fault.LoadFault.{LoadFault}
+use Rattle.koo_toueg_c.specs.NodeNumbers.{of_load}
 use Rattle.koo_toueg_c.specs.Nodes.{IsNoStep}
 use Rattle.koo_toueg_c.specs.declared.node.refusal.Refusal.TheVariants as refusal
-use Rattle.koo_toueg_c.proofs.Loaded.{step_of, again_of, refused_of, if_err}
+use Rattle.koo_toueg_c.proofs.Loaded.{step_of, again_of, refused_of, unread_of, if_err}
 use Rattle.koo_toueg_c.proofs.node.stepping.stepped.Goals as goal
+
+pub returns-in_err-node-clause-refused : goal.returns-in_err-node-clause-refused
+returns-in_err-node-clause-refused c =
+    let fault = c.in_err-node.field-0.0 in
+    if_err c.from_residual.result (IsNoStep c.args.state.now c.args.numbers.now) (λ r. r ≡ of_load fault)
+    (λ r e. unread_of c.args.state.now c.args.numbers.now fault r e
+    (λ is w own said. c.in_err-node.ensures.form (ap (λ (f : LoadFault). Err f) is) w own said)
+    (λ is. c.in_err-node.ensures.memory (ap (λ (f : LoadFault). Err f) is)))
+    c.from_residual.ensures.1
+
+pub returns-in_err-bytes-in-Step-clause-refused : goal.returns-in_err-bytes-in-Step-clause-refused
+returns-in_err-bytes-in-Step-clause-refused c =
+    if_err c.from_residual-in_err-bytes-in-Step.result (IsNoStep c.args.state.now c.args.numbers.now) (λ r. r ≡ refusal.Memory)
+    (λ r e. subst (IsNoStep c.args.state.now c.args.numbers.now) (sym e) (bytes_of (numbers_of c.in_ok-node.node), c.in_ok-node.ensures.ok))
+    c.from_residual-in_err-bytes-in-Step.ensures.1
 
 pub returns-in_err-output-clause-refused : goal.returns-in_err-output-clause-refused
 returns-in_err-output-clause-refused c =
     let ok = c.in_err-output.ensures in
     if_err c.from_residual-in_err-output.result (IsNoStep c.args.state.now c.args.numbers.now) (λ r. r ≡ refusal.Node c.in_err-output.field-0.0)
     (λ r e. refused_of c.args.state.now c.args.numbers.now c.in_ok-node.node c.in-Some.input c.is_able.result c.in_err-output.field-0.0 r
-    (record { same = c.in_ok-node.ensures.own }) (record { own = c.in_ok-node.ensures.sound; said = c.in_ok-node.ensures.ok }) (sym c.meant.ensures ∙ c.in-Some.is) c.is_able.ensures ok.met ok.refused ok.spent e)
+    (record { same = c.in_ok-node.ensures.own }) (record { own = c.in_ok-node.ensures.sound; said = c.in_ok-node.ensures.ok }) (sym c.meant.ensures ∙ c.in-Some.is) c.is_able.ensures ok.met ok.refused ok.spent ok.memory e)
     c.from_residual-in_err-output.ensures.1
 
 pub returns-in_ok-bytes-in-Step-clause-step : goal.returns-in_ok-bytes-in-Step-clause-step
