@@ -2,35 +2,35 @@
 //! them those that it holds.
 
 use kt_base::{Label, Memory, ProcNo, ProcSet};
+use kt_spacetime::Count;
 use std::alloc::Global;
 use std::collections::VecDeque;
 
-/// A message: its label, its mark and its body.
+/// A message: its label and its body.
 #[derive(Clone, Copy)]
-pub struct Item<M> {
-    pub label: Label,
-    pub mark: M,
+pub struct Item {
+    pub label: Count,
     pub body: i64,
 }
 
 /// The messages of one sender, of which the first ones are received, and of those the first ones before a tentative
 /// checkpoint.
 #[derive(Drop)]
-struct Received<M> {
-    items: VecDeque<Item<M>>,
+struct Received {
+    items: VecDeque<Item>,
     kept: usize,
     before: usize,
 }
 
 #[derive(Drop)]
-pub struct Inbox<M> {
-    lists: Vec<Received<M>>,
+pub struct Inbox {
+    lists: Vec<Received>,
     some: ProcSet,
     holds: ProcSet,
 }
 
-impl<M: Copy + Drop> Inbox<M> {
-    pub fn new(alloc: Global, processes: usize) -> Result<Inbox<M>, Memory> {
+impl Inbox {
+    pub fn new(alloc: Global, processes: usize) -> Result<Inbox, Memory> {
         let mut lists = Vec::with_capacity(alloc, processes)?;
         for _number in 0..processes {
             lists.push_reserved(Received {
@@ -64,12 +64,12 @@ impl<M: Copy + Drop> Inbox<M> {
     }
 
     /// A message of a process by its place.
-    pub fn get(&self, from: ProcNo, place: usize) -> Option<&Item<M>> {
+    pub fn get(&self, from: ProcNo, place: usize) -> Option<&Item> {
         self.lists[from.index()].items.get(place)
     }
 
     /// The first message that it holds of a process.
-    pub fn first_held(&self, from: ProcNo) -> Option<&Item<M>> {
+    pub fn first_held(&self, from: ProcNo) -> Option<&Item> {
         let list = &self.lists[from.index()];
         list.items.get(list.kept)
     }
@@ -86,7 +86,7 @@ impl<M: Copy + Drop> Inbox<M> {
 
     /// It receives a message of a process of which it holds none.
     #[inline(always)]
-    pub fn keep(&mut self, from: ProcNo, item: Item<M>) {
+    pub fn keep(&mut self, from: ProcNo, item: Item) {
         let list = &mut self.lists[from.index()];
         list.items.push_back_reserved(item);
         list.kept += 1;
@@ -94,7 +94,7 @@ impl<M: Copy + Drop> Inbox<M> {
     }
 
     /// It holds a message.
-    pub fn hold(&mut self, from: ProcNo, item: Item<M>) {
+    pub fn hold(&mut self, from: ProcNo, item: Item) {
         let list = &mut self.lists[from.index()];
         list.items.push_back_reserved(item);
         self.some = self.some.with(from);

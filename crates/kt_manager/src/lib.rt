@@ -1,14 +1,12 @@
-//! The manager of one process: its tables, its part in an instance and its inbox. What a step tells goes into a sink.
+//! The manager of one process: its tables, its part in an instance and its inbox. A step answers what it puts out.
 #![tactic(auto)]
 
+mod effects;
 mod inbox;
 mod manager;
 mod meeting;
-mod rows;
-mod sink;
 
+pub use effects::{Effects, NodeParcel, Parcels};
 pub use inbox::{Inbox, Item};
-pub use manager::Manager;
-pub use meeting::Answer;
-pub use rows::{Row, Why};
-pub use sink::{Name, Sink};
+pub use manager::{Manager, is_one};
+pub use meeting::{Answer, Ask};

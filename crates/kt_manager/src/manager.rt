@@ -1,12 +1,12 @@
 //! The manager.
 
+use crate::effects::{Effects, NO_ACTS, NodeParcel, Parcels};
 use crate::inbox::{Inbox, Item};
-use crate::meeting::Answer;
-use crate::rows::{Row, Why};
-use crate::sink::{Name, Sink};
-use kt_base::{Cause, InstNo, Kind, Label, Memory, ProcNo, Verb};
+use crate::meeting::{Answer, Ask};
+use kt_base::{Cause, InstNo, Kind, Label, Memory, ProcNo, ProcSet, Verb};
 use kt_plan::Act;
 use kt_process::{Action, Asks, Process, Then};
+use kt_spacetime::{Count, InstName, NamedCause, NamedEvent};
 use std::alloc::Global;
 
 mod closing;
@@ -14,21 +14,21 @@ mod joining;
 mod messages;
 
 #[derive(Drop)]
-pub struct Manager<I, M> {
+pub struct Manager {
     alloc: Global,
     me: ProcNo,
     process: Process,
-    inst: Option<I>,
-    inbox: Inbox<M>,
+    inst: Option<InstName>,
+    inbox: Inbox,
 }
 
-impl<I: Name + Drop, M: Copy + Drop> Manager<I, M> {
+impl Manager {
     pub fn new(
         alloc: Global,
         me: ProcNo,
         processes: usize,
         used: Label,
-    ) -> Result<Manager<I, M>, Memory> {
+    ) -> Result<Manager, Memory> {
         Ok(Manager {
             alloc,
             me,
@@ -43,9 +43,9 @@ impl<I: Name + Drop, M: Copy + Drop> Manager<I, M> {
         alloc: Global,
         me: ProcNo,
         process: Process,
-        inst: Option<I>,
-        inbox: Inbox<M>,
-    ) -> Manager<I, M> {
+        inst: Option<InstName>,
+        inbox: Inbox,
+    ) -> Manager {
         Manager {
             alloc,
             me,
@@ -64,12 +64,12 @@ impl<I: Name + Drop, M: Copy + Drop> Manager<I, M> {
     }
 
     #[inline(always)]
-    pub fn inbox(&self) -> &Inbox<M> {
+    pub fn inbox(&self) -> &Inbox {
         &self.inbox
     }
 
     #[inline(always)]
-    pub fn inst(&self) -> Option<I> {
+    pub fn inst(&self) -> Option<InstName> {
         self.inst
     }
 
@@ -97,26 +97,49 @@ impl<I: Name + Drop, M: Copy + Drop> Manager<I, M> {
 
     /// Whether it is in this instance.
     #[inline(always)]
-    pub fn is_in(&self, inst: &I) -> bool {
+    pub fn is_in(&self, inst: &InstName) -> bool {
         match &self.inst {
-            Some(name) => name.is_one(inst),
+            Some(name) => is_one(name, inst),
             None => false,
         }
     }
 
-    fn named(&self, cause: &Cause) -> Why<I> {
+    /// A cause by name: the instance that its process is busy with is its own.
+    fn named(&self, cause: &Cause) -> NamedCause {
         match cause {
-            Cause::Busy(_) => match self.inst {
-                Some(inst) => Why::Busy(inst),
-                None => Why::Down,
-            },
-            Cause::Down => Why::Down,
-            Cause::NoSave => Why::NoSave,
+            Cause::Busy(_) => self.busy(),
+            Cause::Down => NamedCause::Down,
+            Cause::NoSave => NamedCause::NoSave,
         }
     }
+
+    fn busy(&self) -> NamedCause {
+        match self.inst {
+            Some(inst) => NamedCause::Busy(inst),
+            None => NamedCause::Down,
+        }
+    }
+}
+
+/// Whether a name is that of another instance too.
+#[inline(always)]
+pub fn is_one(name: &InstName, inst: &InstName) -> bool {
+    name.initiator.get() == inst.initiator.get() && name.count.get() == inst.count.get()
 }
 
 /// The number of the instance that a process is in, or may join now.
 fn here() -> InstNo {
     InstNo::new(1).unwrap()
+}
+
+/// A count of messages as a label.
+#[inline(always)]
+fn label_of(count: Count) -> Label {
+    Label::new(count.get()).unwrap()
+}
+
+/// A label as a count of messages.
+#[inline(always)]
+fn count_of(label: Label) -> Count {
+    Count::new(label.get()).unwrap()
 }

@@ -1,5 +1,16 @@
 //! How a process meets an ask, before it takes it.
 
+use kt_base::{Kind, Label};
+use kt_spacetime::InstName;
+
+/// What is asked: whether a process takes part in an instance of a kind, with the label that this turns on.
+#[derive(Clone, Copy)]
+pub struct Ask {
+    pub inst: InstName,
+    pub kind: Kind,
+    pub label: Label,
+}
+
 /// What becomes of an ask.
 #[derive(Clone, Copy)]
 pub enum Answer {

@@ -2,11 +2,11 @@
 
 ghost use Rattle.std.specs.Prelude.{[]};
 
-use kt_base::{InstNo, Kind, Label, Memory, MsgNo, ProcNo, ProcSet};
+use kt_base::{InstNo, Kind, Label, Memory, ProcNo, ProcSet};
 use kt_fifo::{Parcel, member_at};
-use kt_manager::{Answer, Manager};
+use kt_manager::{Answer, Ask, Effects, Manager};
 use kt_plan::Act;
-use kt_spacetime::SpaceTime;
+use kt_spacetime::{Count, SpaceTime};
 use std::alloc::Global;
 use std::marker::Model;
 
@@ -16,15 +16,16 @@ mod steps;
 mod takes;
 
 pub use outbox::Tally;
-use outbox::{Named, Outbox};
+use outbox::{Outbox, name_of, number_of};
 pub use steps::Taken;
 
 /// Managers, what they put out, and how many instances began.
 #[derive(Drop)]
 pub struct System {
     size: usize,
-    managers: Vec<Manager<Named, MsgNo>>,
+    managers: Vec<Manager>,
     out: Outbox,
+    acts: [Act; 2],
     begun: u16,
     holders: ProcSet,
 }
@@ -51,7 +52,8 @@ impl System {
         Ok(System {
             size: processes,
             managers,
-            out: Outbox::new(alloc, processes, instances)?,
+            out: Outbox::new(alloc, processes, used, instances)?,
+            acts: [Act::Nothing, Act::Nothing],
             begun: 0,
             holders: ProcSet::empty(),
         })

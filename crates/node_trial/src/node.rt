@@ -1,8 +1,8 @@
 //! A node: a manager, numbers and a clock.
 
-use crate::output::{NoMark, NodeParcel, Output, Parcels};
+use crate::output::Output;
 use kt_base::{Label, Memory, ProcNo, ProcSet};
-use kt_manager::{Manager, Name};
+use kt_manager::{Ask, Effects, Manager, NodeParcel, Parcels, is_one};
 use kt_plan::Act;
 use kt_spacetime::{InstName, NamedEvent};
 use std::alloc::Global;
@@ -48,7 +48,7 @@ impl From<Memory> for Fault {
 pub struct Node {
     pub size: usize,
     pub begun: u64,
-    pub manager: Manager<InstName, NoMark>,
+    pub manager: Manager,
     pub asks: [Option<InstName>; 64],
     pub answered: ProcSet,
     pub clock: u64,
@@ -80,26 +80,27 @@ impl Node {
         })
     }
 
-    /// A parcel of another process comes: whether it made a step.
+    /// A parcel of another process comes: what its step puts out, where it makes one.
     pub fn deliver(
         &mut self,
         from: ProcNo,
         able: bool,
         envelope: &Envelope,
-        out: &mut Output,
-    ) -> Result<bool, Fault> {
+    ) -> Result<Option<Output>, Fault> {
         if !self.meet(from, envelope)? {
-            return Ok(false);
+            return Ok(None);
         }
         let clock = self.clock.max(envelope.clock);
         if clock >= MOST {
             return Err(Fault::ClockSpent);
         }
-        out.clear();
-        self.take(from, able, &envelope.parcel, out)?;
+        let effects = self.take(from, able, &envelope.parcel)?;
         self.taken[from.index()] = envelope.number;
-        self.put(clock + 1, out);
-        Ok(true)
+        self.put(clock + 1, &effects);
+        Ok(Some(Output {
+            clock: clock + 1,
+            effects,
+        }))
     }
 
     #[inline(always)]
@@ -108,8 +109,7 @@ impl Node {
         from: ProcNo,
         able: bool,
         parcel: &NodeParcel,
-        out: &mut Output,
-    ) -> Result<(), Fault> {
+    ) -> Result<Effects, Fault> {
         if from.index() >= self.size || from.get() == self.manager.me().get() {
             return Err(Fault::Unknown);
         }
@@ -117,36 +117,38 @@ impl Node {
             return Err(Fault::HeldFirst);
         }
         match *parcel {
-            NodeParcel::App { label, body } => {
-                self.manager
-                    .take_message(from, label, NoMark::new(), body, out)?;
-            }
+            NodeParcel::App { label, body } => Ok(self.manager.take_message(from, label, body)?),
             NodeParcel::Ask { inst, kind, label } => {
-                if !self.is_begun(&inst) {
-                    return Err(Fault::NotBegun);
-                }
-                let was_outside = self.manager.is_outside();
-                let answer = self.manager.meet(from, &inst, kind, label);
-                self.manager
-                    .take_ask(from, &inst, kind, label, answer, able, out)?;
-                self.asks[from.index()] = Some(inst);
-                if was_outside {
-                    self.answered = ProcSet::empty();
-                }
+                self.take_ask(from, &Ask { inst, kind, label }, able)
             }
             NodeParcel::Reply { inst, willing } => {
-                if self.awaits(from, &inst) {
-                    self.answered = self.answered.with(from);
-                    self.manager.take_reply(&inst, willing, out);
+                if !self.awaits(from, &inst) {
+                    return Ok(Effects::none());
                 }
+                self.answered = self.answered.with(from);
+                Ok(self.manager.take_reply(&inst, willing))
             }
             NodeParcel::Decide { inst, commit } => {
-                if self.heeds(from, &inst) {
-                    self.manager.take_decision(&inst, commit, out);
+                if !self.heeds(from, &inst) {
+                    return Ok(Effects::none());
                 }
+                Ok(self.manager.take_decision(&inst, commit))
             }
         }
-        Ok(())
+    }
+
+    fn take_ask(&mut self, from: ProcNo, ask: &Ask, able: bool) -> Result<Effects, Fault> {
+        if !self.is_begun(&ask.inst) {
+            return Err(Fault::NotBegun);
+        }
+        let was_outside = self.manager.is_outside();
+        let answer = self.manager.meet(from, ask);
+        let effects = self.manager.take_ask(from, ask, answer, able)?;
+        self.asks[from.index()] = Some(ask.inst);
+        if was_outside {
+            self.answered = ProcSet::empty();
+        }
+        Ok(effects)
     }
 
     /// Whether it awaits a reply of a process in this instance.
@@ -163,7 +165,7 @@ impl Node {
     /// Whether the last ask of this process is that of the instance.
     fn heeds(&self, from: ProcNo, inst: &InstName) -> bool {
         match &self.asks[from.index()] {
-            Some(name) => name.is_one(inst),
+            Some(name) => is_one(name, inst),
             None => false,
         }
     }
@@ -223,10 +225,9 @@ impl Node {
     }
 
     #[inline(always)]
-    fn put(&mut self, clock: u64, out: &mut Output) {
+    fn put(&mut self, clock: u64, effects: &Effects) {
         self.clock = clock;
-        out.clock = clock;
-        match &out.parcels {
+        match &effects.parcels {
             Parcels::Nothing => {}
             Parcels::One { to, .. } => self.sent[to.index()] += 1,
             Parcels::Asks { asks, .. } => {
@@ -242,8 +243,8 @@ impl Node {
                 }
             }
         }
-        for place in 0..out.row_count {
-            match &out.rows[place] {
+        for row in &effects.rows {
+            match row {
                 Some(NamedEvent::Sent { label, .. }) => self.live.sent = label.get(),
                 Some(NamedEvent::Received { from, label }) => {
                     self.live.received[from.index()] = label.get();
@@ -251,8 +252,8 @@ impl Node {
                 _ => {}
             }
         }
-        for place in 0..out.act_count {
-            match out.acts[place] {
+        for act in &effects.acts {
+            match act {
                 Act::Keep => self.tentative = self.live,
                 Act::Promote => self.permanent = self.tentative,
                 Act::Restore => self.live = self.permanent,

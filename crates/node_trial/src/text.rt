@@ -1,7 +1,6 @@
 //! A node as bytes.
 
 use crate::node::{Node, Reach};
-use crate::output::NoMark;
 use kt_base::{InstNo, Label, Memory, ProcNo, ProcSet};
 use kt_checksum::{checksum, unsealed};
 use kt_manager::{Inbox, Item, Manager};
@@ -117,7 +116,7 @@ fn put_process(out: &mut Vec<u8>, process: &Process) -> Result<(), Memory> {
     put_pairs(out, lists.last_out)
 }
 
-fn put_inbox(out: &mut Vec<u8>, inbox: &Inbox<NoMark>) -> Result<(), Memory> {
+fn put_inbox(out: &mut Vec<u8>, inbox: &Inbox) -> Result<(), Memory> {
     let mut rest = inbox.senders();
     word(out, bits_of(rest))?;
     while let Some(from) = rest.first() {
@@ -310,7 +309,7 @@ fn process(alloc: Global, size: usize, numbers: &mut Numbers) -> Result<Process,
     }
 }
 
-fn inbox(alloc: Global, size: usize, numbers: &mut Numbers) -> Result<Inbox<NoMark>, LoadFault> {
+fn inbox(alloc: Global, size: usize, numbers: &mut Numbers) -> Result<Inbox, LoadFault> {
     let mut inbox = Inbox::new(alloc, size)?;
     let mut rest = set_of(numbers.next()?);
     while let Some(from) = rest.first() {
@@ -325,8 +324,7 @@ fn inbox(alloc: Global, size: usize, numbers: &mut Numbers) -> Result<Inbox<NoMa
         }
         for place in 0..count {
             let item = Item {
-                label: numbers.label()?,
-                mark: NoMark::new(),
+                label: count_of(numbers.label()?)?,
                 body: numbers.next()? as i64,
             };
             inbox.make_room(from)?;
@@ -340,6 +338,13 @@ fn inbox(alloc: Global, size: usize, numbers: &mut Numbers) -> Result<Inbox<NoMa
         rest = rest.without(from);
     }
     Ok(inbox)
+}
+
+fn count_of(label: Label) -> Result<Count, LoadFault> {
+    match Count::new(label.get()) {
+        Some(count) => Ok(count),
+        None => Err(LoadFault::Form),
+    }
 }
 
 fn reach(size: usize, numbers: &mut Numbers) -> Result<Reach, LoadFault> {

@@ -1,77 +1,84 @@
 //! Replies, decisions, and the end of an instance.
 
-use super::{Act, Action, Manager, Name, Row, Sink};
+use super::joining::reply;
+use super::{
+    Act, Action, Effects, InstName, Manager, NamedEvent, Parcels, ProcSet,
+};
 
-impl<I: Name + Drop, M: Copy + Drop> Manager<I, M> {
+impl Manager {
     /// A reply of a process comes.
     #[inline(always)]
-    pub fn take_reply<S: Sink<I, M>>(
-        &mut self,
-        inst: &I,
-        willing: bool,
-        sink: &mut S,
-    ) {
+    pub fn take_reply(&mut self, inst: &InstName, willing: bool) -> Effects {
         match self.process.hear_reply(willing) {
-            Action::Reply { to, willing, .. } => sink.reply(self.me, to, inst, willing),
-            Action::Settle { commit, .. } => self.decide(inst, commit, sink),
-            Action::Nothing | Action::Refuse(_) | Action::Join { .. } => {}
+            Action::Reply { to, willing, .. } => Effects::put(None, to, reply(inst, willing)),
+            Action::Settle { commit, .. } => {
+                let decided = NamedEvent::Decided {
+                    inst: *inst,
+                    commit,
+                };
+                self.close(inst, commit, Some(decided))
+            }
+            Action::Nothing | Action::Refuse(_) | Action::Join { .. } => Effects::none(),
         }
     }
 
     /// A decision of a process comes.
     #[inline(always)]
-    pub fn take_decision<S: Sink<I, M>>(
-        &mut self,
-        inst: &I,
-        commit: bool,
-        sink: &mut S,
-    ) {
+    pub fn take_decision(&mut self, inst: &InstName, commit: bool) -> Effects {
         if !self.is_in(inst) {
-            return;
+            return Effects::none();
         }
-        self.close(inst, commit, sink);
-    }
-
-    /// It decides its instance.
-    pub(super) fn decide<S: Sink<I, M>>(&mut self, inst: &I, commit: bool, sink: &mut S) {
-        sink.row(
-            self.me,
-            Row::Decided {
-                inst: *inst,
-                commit,
-            },
-        );
-        self.close(inst, commit, sink);
+        self.close(inst, commit, None)
     }
 
     /// It closes its instance, and tells the decision to those that it asked.
-    fn close<S: Sink<I, M>>(&mut self, inst: &I, commit: bool, sink: &mut S) {
-        let is_rollback = self.process.is_ready();
-        self.settle_inbox(is_rollback, commit);
-        self.inst = None;
-        let to = self.process.close(commit);
-        sink.decisions(self.me, inst, commit, to);
-        sink.row(self.me, Row::Closed { inst: *inst });
-        match (is_rollback, commit) {
-            (true, true) => sink.act(Act::Restore),
-            (true, false) => {}
-            (false, true) => sink.act(Act::Promote),
-            (false, false) => sink.act(Act::Discard),
+    fn close(&mut self, inst: &InstName, commit: bool, decided: Option<NamedEvent>) -> Effects {
+        let act = self.closing_act(commit);
+        let to = self.leave(commit);
+        let closed = NamedEvent::Closed { inst: *inst };
+        Effects {
+            rows: [decided, Some(closed), None, None],
+            acts: [act, Act::Nothing],
+            parcels: Parcels::Decisions {
+                inst: *inst,
+                commit,
+                to,
+            },
         }
     }
 
-    fn settle_inbox(&mut self, is_rollback: bool, commit: bool) {
-        match (is_rollback, commit) {
-            (true, true) => {
-                let mut rest = self.inbox.senders();
-                while let Some(from) = rest.first() {
-                    self.inbox.put_back(from, self.process.noted(from));
-                    rest = rest.without(from);
-                }
-            }
+    /// What it does to its saved states and its object when it closes its instance.
+    pub(super) fn closing_act(&self, commit: bool) -> Act {
+        match (self.process.is_ready(), commit) {
+            (true, true) => Act::Restore,
+            (true, false) => Act::Nothing,
+            (false, true) => Act::Promote,
+            (false, false) => Act::Discard,
+        }
+    }
+
+    /// It leaves its instance, and answers whom it asked.
+    pub(super) fn leave(&mut self, commit: bool) -> ProcSet {
+        self.settle_inbox(commit);
+        self.inst = None;
+        self.process.close(commit)
+    }
+
+    fn settle_inbox(&mut self, commit: bool) {
+        match (self.process.is_ready(), commit) {
+            (true, true) => self.put_back(),
             (true, false) => {}
             (false, true) => self.inbox.forget(),
             (false, false) => self.inbox.undo_marks(),
+        }
+    }
+
+    /// What it received is held again, but for what goes above the labels noted.
+    fn put_back(&mut self) {
+        let mut rest = self.inbox.senders();
+        while let Some(from) = rest.first() {
+            self.inbox.put_back(from, self.process.noted(from));
+            rest = rest.without(from);
         }
     }
 }

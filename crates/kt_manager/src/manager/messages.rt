@@ -1,97 +1,82 @@
 //! Messages and failures.
 
-use super::{Act, Item, Label, Manager, Memory, Name, ProcNo, Row, Sink, Verb, Why};
+use super::{
+    Act, Count, Effects, Item, Manager, Memory, NO_ACTS, NamedCause, NamedEvent, NodeParcel,
+    Parcels, ProcNo, Verb, count_of, label_of,
+};
 
-impl<I: Name + Drop, M: Copy + Drop> Manager<I, M> {
+impl Manager {
     /// It sends a message to a process; where its object is down, it refuses.
     #[inline(always)]
-    pub fn send<S: Sink<I, M>>(
-        &mut self,
-        to: ProcNo,
-        body: i64,
-        sink: &mut S,
-    ) {
+    pub fn send(&mut self, to: ProcNo, body: i64) -> Effects {
         if !self.process.is_up() {
-            sink.row(self.me, refused(Verb::Send, Why::Down));
-            return;
+            return refusal(Verb::Send, NamedCause::Down);
         }
-        let label = self.process.send(to);
-        let mark = sink.mark();
-        sink.message(self.me, to, label, mark, body);
-        sink.row(self.me, Row::Sent { to, body, label });
+        let label = count_of(self.process.send(to));
+        let sent = NamedEvent::Sent { to, body, label };
+        Effects::put(Some(sent), to, NodeParcel::App { label, body })
     }
 
     /// Its object fails; where that is down, it refuses.
-    pub fn fail<S: Sink<I, M>>(&mut self, sink: &mut S) {
+    pub fn fail(&mut self) -> Effects {
         if !self.process.is_up() {
-            sink.row(self.me, refused(Verb::Fail, Why::Down));
-            return;
+            return refusal(Verb::Fail, NamedCause::Down);
         }
         self.process.fail();
-        sink.row(self.me, Row::Failed);
-        sink.act(Act::Drop);
+        Effects {
+            rows: [Some(NamedEvent::Failed), None, None, None],
+            acts: [Act::Drop, Act::Nothing],
+            parcels: Parcels::Nothing,
+        }
     }
 
     /// A message comes of a process of which it holds none.
     #[inline(always)]
-    pub fn take_message<S: Sink<I, M>>(
+    pub fn take_message(
         &mut self,
         from: ProcNo,
-        label: Label,
-        mark: M,
+        label: Count,
         body: i64,
-        sink: &mut S,
-    ) -> Result<(), Memory> {
+    ) -> Result<Effects, Memory> {
         if self.process.is_ready() {
             self.inbox.make_room(from)?;
-            self.inbox.hold(from, Item { label, mark, body });
-            return Ok(());
+            self.inbox.hold(from, Item { label, body });
+            return Ok(Effects::none());
         }
         if !self.process.is_up() {
-            sink.row(self.me, Row::Dropped { from, label, mark });
-            return Ok(());
+            return Ok(Effects::told(NamedEvent::Dropped { from, label }));
         }
         self.inbox.make_room(from)?;
-        self.inbox.keep(from, Item { label, mark, body });
-        self.receive(from, label, mark, body, sink);
-        Ok(())
+        self.inbox.keep(from, Item { label, body });
+        Ok(self.receive(from, label, body))
     }
 
     #[inline(always)]
-    fn receive<S: Sink<I, M>>(
-        &mut self,
-        from: ProcNo,
-        label: Label,
-        mark: M,
-        body: i64,
-        sink: &mut S,
-    ) {
-        self.process.receive(from, label);
-        sink.row(self.me, Row::Received { from, label, mark });
-        sink.act(Act::Apply { from, body });
+    fn receive(&mut self, from: ProcNo, label: Count, body: i64) -> Effects {
+        self.process.receive(from, label_of(label));
+        Effects {
+            rows: [Some(NamedEvent::Received { from, label }), None, None, None],
+            acts: [Act::Apply { from, body }, Act::Nothing],
+            parcels: Parcels::Nothing,
+        }
     }
 
-    /// It takes the first message that it holds of a process. Whether there was one.
-    pub fn take_held<S: Sink<I, M>>(
-        &mut self,
-        from: ProcNo,
-        sink: &mut S,
-    ) -> bool {
+    /// It takes the first message that it holds of a process; where it holds none, it does nothing.
+    pub fn take_held(&mut self, from: ProcNo) -> Effects {
         let Some(item) = self.inbox.first_held(from).copied() else {
-            return false;
+            return Effects::none();
         };
-        let Item { label, mark, body } = item;
+        let Item { label, body } = item;
         if self.process.is_up() {
             self.inbox.keep_held(from);
-            self.receive(from, label, mark, body, sink);
-        } else {
-            self.inbox.drop_held(from);
-            sink.row(self.me, Row::Dropped { from, label, mark });
+            return self.receive(from, label, body);
         }
-        true
+        self.inbox.drop_held(from);
+        Effects::told(NamedEvent::Dropped { from, label })
     }
 }
 
-fn refused<I, M>(verb: Verb, cause: Why<I>) -> Row<I, M> {
-    Row::Refused { verb, cause }
+/// A command that is refused.
+pub(super) fn refusal(verb: Verb, cause: NamedCause) -> Effects {
+    Effects::told(NamedEvent::Refused { verb, cause })
 }

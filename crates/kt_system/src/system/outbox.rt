@@ -1,11 +1,10 @@
-//! Where the managers of a system put what they tell: channels and log.
+//! Where what the managers of a system put out goes: channels and log.
 
 use kt_base::{Cause, InstNo, Kind, Label, Memory, MsgNo, ProcNo, ProcSet};
 use kt_fifo::{Parcel, Pool};
-use kt_manager::{Name, Row, Sink, Why};
-use kt_plan::Act;
+use kt_manager::{Effects, NodeParcel, Parcels};
 use kt_process::Asks;
-use kt_spacetime::{Event, SpaceTime};
+use kt_spacetime::{Count, Event, InstName, NamedCause, NamedEvent, SpaceTime};
 use std::alloc::Global;
 
 /// How many asks, replies and decisions of an instance were put into channels.
@@ -16,33 +15,36 @@ pub struct Tally {
     pub decisions: u32,
 }
 
-/// The number of an instance, as its name.
-#[derive(Clone, Copy, Drop)]
-pub(super) struct Named {
-    pub(super) inst: InstNo,
-}
-
-impl Name for Named {
-    #[inline(always)]
-    fn is_one(&self, other: &Named) -> bool {
-        self.inst.get() == other.inst.get()
+/// The name of the instance with a number: which one it is of all, as if process 0 had begun them.
+#[inline(always)]
+pub(super) fn name_of(inst: InstNo) -> InstName {
+    InstName {
+        initiator: ProcNo::nth(0),
+        count: Count::after(inst.index()),
     }
 }
 
-/// Channels, log, tallies, and the acts of the step at hand.
+/// The number of an instance with such a name.
+#[inline(always)]
+pub(super) fn number_of(name: &InstName) -> InstNo {
+    InstNo::new(name.count.get() as u16).unwrap()
+}
+
+/// Channels, log and tallies; and by sender the numbers of its messages, whose labels go on after `first`.
 #[derive(Drop)]
 pub(super) struct Outbox {
     pub(super) channels: Pool,
     pub(super) log: SpaceTime,
     pub(super) tallies: Vec<Tally>,
-    pub(super) acts: [Act; 2],
-    pub(super) told: usize,
+    sent_rows: Vec<Vec<MsgNo>>,
+    first: u64,
 }
 
 impl Outbox {
     pub(super) fn new(
         alloc: Global,
         processes: usize,
+        used: Label,
         instances: usize,
     ) -> Result<Outbox, Memory> {
         let none = Tally {
@@ -50,26 +52,175 @@ impl Outbox {
             replies: 0,
             decisions: 0,
         };
+        let mut sent_rows = Vec::with_capacity(alloc, processes)?;
+        for _number in 0..processes {
+            sent_rows.push_reserved(Vec::new(alloc));
+        }
         Ok(Outbox {
             channels: Pool::new(alloc, processes)?,
             log: SpaceTime::new(alloc),
             tallies: vec![in alloc; none; instances]?,
-            acts: [Act::Nothing, Act::Nothing],
-            told: 0,
+            sent_rows,
+            first: used.get(),
         })
     }
 
-    /// Room for what a step tells: four rows, and two parcels to each process.
+    /// Room for what a step puts out: four rows, and two parcels to each process.
     #[inline(always)]
     pub(super) fn make_room(&mut self) -> Result<(), Memory> {
-        self.told = 0;
         self.log.reserve(4)?;
         self.channels.reserve(128)
     }
 
+    /// Room for the number of one message more of a process.
     #[inline(always)]
-    fn tally(&mut self, inst: &Named, asks: u32, replies: u32, decisions: u32) {
-        let Some(tally) = self.tallies.get_mut(inst.inst.index()) else {
+    pub(super) fn make_room_to_send(&mut self, p: ProcNo) -> Result<(), Memory> {
+        self.sent_rows[p.index()].reserve(1)?;
+        Ok(())
+    }
+
+    /// The number of a message.
+    #[inline(always)]
+    fn msg(&self, from: ProcNo, label: Count) -> MsgNo {
+        self.sent_rows[from.index()][(label.get() - self.first) as usize - 1]
+    }
+
+    /// Writes what a step of a process put out.
+    #[inline(always)]
+    pub(super) fn put(&mut self, p: ProcNo, effects: &Effects) {
+        for row in &effects.rows {
+            if let Some(row) = row {
+                self.write(p, row);
+            }
+        }
+        match &effects.parcels {
+            Parcels::Nothing => {}
+            Parcels::One { to, parcel } => self.put_one(p, *to, parcel),
+            Parcels::Asks { inst, kind, asks } => {
+                self.put_asks(p, number_of(inst), *kind, asks);
+            }
+            Parcels::Decisions { inst, commit, to } => {
+                self.put_decisions(p, number_of(inst), *commit, *to);
+            }
+        }
+    }
+
+    #[inline(always)]
+    fn write(&mut self, p: ProcNo, row: &NamedEvent) {
+        if let NamedEvent::Sent { .. } = row {
+            let msg = MsgNo::after(self.log.rows().len());
+            self.sent_rows[p.index()].push_reserved(msg);
+        }
+        let event = self.event_of(p, row);
+        self.log.push_reserved(event);
+    }
+
+    /// A row by numbers.
+    #[inline(always)]
+    fn event_of(&self, p: ProcNo, row: &NamedEvent) -> Event {
+        match *row {
+            NamedEvent::Sent { to, body, .. } => Event::Sent { p, to, body },
+            NamedEvent::Received { from, label } => Event::Received {
+                p,
+                from,
+                msg: self.msg(from, label),
+            },
+            NamedEvent::Dropped { from, label } => Event::Dropped {
+                p,
+                from,
+                msg: self.msg(from, label),
+            },
+            NamedEvent::Began { inst, kind } => Event::Began {
+                p,
+                inst: number_of(&inst),
+                kind,
+            },
+            NamedEvent::Took { inst } => Event::Took {
+                p,
+                inst: number_of(&inst),
+            },
+            NamedEvent::Ready { inst } => Event::Ready {
+                p,
+                inst: number_of(&inst),
+            },
+            NamedEvent::Unwilling { inst, cause } => Event::Unwilling {
+                p,
+                inst: number_of(&inst),
+                cause: cause_of(&cause),
+            },
+            NamedEvent::Decided { inst, commit } => Event::Decided {
+                p,
+                inst: number_of(&inst),
+                commit,
+            },
+            NamedEvent::Closed { inst } => Event::Closed {
+                p,
+                inst: number_of(&inst),
+            },
+            NamedEvent::Failed => Event::Failed { p },
+            NamedEvent::Refused { verb, cause } => Event::Refused {
+                p,
+                verb,
+                cause: cause_of(&cause),
+            },
+        }
+    }
+
+    #[inline(always)]
+    fn put_one(&mut self, p: ProcNo, to: ProcNo, parcel: &NodeParcel) {
+        match *parcel {
+            NodeParcel::App { label, body } => {
+                let msg = self.msg(p, label);
+                let label = Label::new(label.get()).unwrap();
+                self.channels
+                    .push_reserved(p, to, Parcel::App { label, msg, body });
+            }
+            NodeParcel::Reply { inst, willing } => {
+                let inst = number_of(&inst);
+                self.channels
+                    .push_reserved(p, to, Parcel::Reply { inst, willing });
+                self.tally(inst, 0, 1, 0);
+            }
+            NodeParcel::Ask { inst, kind, label } => {
+                let inst = number_of(&inst);
+                self.channels
+                    .push_reserved(p, to, Parcel::Ask { inst, kind, label });
+            }
+            NodeParcel::Decide { inst, commit } => {
+                let inst = number_of(&inst);
+                self.channels
+                    .push_reserved(p, to, Parcel::Decide { inst, commit });
+            }
+        }
+    }
+
+    fn put_asks(&mut self, p: ProcNo, inst: InstNo, kind: Kind, asks: &Asks) {
+        for ask in asks.list() {
+            let parcel = Parcel::Ask {
+                inst,
+                kind,
+                label: ask.1,
+            };
+            self.channels.push_reserved(p, ask.0, parcel);
+        }
+        self.tally(inst, asks.list().len() as u32, 0, 0);
+    }
+
+    fn put_decisions(&mut self, p: ProcNo, inst: InstNo, commit: bool, to: ProcSet) {
+        let mut rest = to;
+        let mut count: u32 = 0;
+        while let Some(q) = rest.first() {
+            self.channels
+                .push_reserved(p, q, Parcel::Decide { inst, commit });
+            rest = rest.without(q);
+            count += 1;
+        }
+        self.tally(inst, 0, 0, count);
+    }
+
+    #[inline(always)]
+    fn tally(&mut self, inst: InstNo, asks: u32, replies: u32, decisions: u32) {
+        let Some(tally) = self.tallies.get_mut(inst.index()) else {
             return;
         };
         tally.asks = tally.asks.saturating_add(asks);
@@ -79,100 +230,10 @@ impl Outbox {
 }
 
 #[inline(always)]
-fn cause_of(why: Why<Named>) -> Cause {
-    match why {
-        Why::Busy(inst) => Cause::Busy(inst.inst),
-        Why::Down => Cause::Down,
-        Why::NoSave => Cause::NoSave,
-    }
-}
-
-impl Sink<Named, MsgNo> for Outbox {
-    #[inline(always)]
-    fn mark(&self) -> MsgNo {
-        MsgNo::after(self.log.rows().len())
-    }
-
-    #[inline(always)]
-    fn row(&mut self, p: ProcNo, row: Row<Named, MsgNo>) {
-        let event = match row {
-            Row::Sent { to, body, .. } => Event::Sent { p, to, body },
-            Row::Received { from, mark, .. } => Event::Received { p, from, msg: mark },
-            Row::Dropped { from, mark, .. } => Event::Dropped { p, from, msg: mark },
-            Row::Began { inst, kind } => Event::Began {
-                p,
-                inst: inst.inst,
-                kind,
-            },
-            Row::Took { inst } => Event::Took { p, inst: inst.inst },
-            Row::Ready { inst } => Event::Ready { p, inst: inst.inst },
-            Row::Unwilling { inst, cause } => Event::Unwilling {
-                p,
-                inst: inst.inst,
-                cause: cause_of(cause),
-            },
-            Row::Decided { inst, commit } => Event::Decided {
-                p,
-                inst: inst.inst,
-                commit,
-            },
-            Row::Closed { inst } => Event::Closed { p, inst: inst.inst },
-            Row::Failed => Event::Failed { p },
-            Row::Refused { verb, cause } => Event::Refused {
-                p,
-                verb,
-                cause: cause_of(cause),
-            },
-        };
-        self.log.push_reserved(event);
-    }
-
-    #[inline(always)]
-    fn act(&mut self, act: Act) {
-        self.acts[self.told] = act;
-        self.told += 1;
-    }
-
-    #[inline(always)]
-    fn message(&mut self, me: ProcNo, to: ProcNo, label: Label, msg: MsgNo, body: i64) {
-        self.channels
-            .push_reserved(me, to, Parcel::App { label, msg, body });
-    }
-
-    #[inline(always)]
-    fn reply(&mut self, me: ProcNo, to: ProcNo, inst: &Named, willing: bool) {
-        let parcel = Parcel::Reply {
-            inst: inst.inst,
-            willing,
-        };
-        self.channels.push_reserved(me, to, parcel);
-        self.tally(inst, 0, 1, 0);
-    }
-
-    fn asks(&mut self, me: ProcNo, inst: &Named, kind: Kind, asks: Asks) {
-        for ask in asks.list() {
-            let parcel = Parcel::Ask {
-                inst: inst.inst,
-                kind,
-                label: ask.1,
-            };
-            self.channels.push_reserved(me, ask.0, parcel);
-        }
-        self.tally(inst, asks.list().len() as u32, 0, 0);
-    }
-
-    fn decisions(&mut self, me: ProcNo, inst: &Named, commit: bool, to: ProcSet) {
-        let mut rest = to;
-        let mut count: u32 = 0;
-        while let Some(q) = rest.first() {
-            let parcel = Parcel::Decide {
-                inst: inst.inst,
-                commit,
-            };
-            self.channels.push_reserved(me, q, parcel);
-            rest = rest.without(q);
-            count += 1;
-        }
-        self.tally(inst, 0, 0, count);
+fn cause_of(cause: &NamedCause) -> Cause {
+    match cause {
+        NamedCause::Busy(inst) => Cause::Busy(number_of(inst)),
+        NamedCause::Down => Cause::Down,
+        NamedCause::NoSave => Cause::NoSave,
     }
 }

@@ -1,6 +1,6 @@
 //! What can be read of a system.
 
-use super::{InstNo, ProcNo, SpaceTime, System, Tally};
+use super::{InstNo, ProcNo, SpaceTime, System, Tally, number_of};
 
 impl System {
     pub fn processes(&self) -> usize {
@@ -18,7 +18,7 @@ impl System {
     #[inline(always)]
     pub fn in_inst(&self, p: ProcNo) -> Option<InstNo> {
         match self.managers[p.index()].inst() {
-            Some(inst) => Some(inst.inst),
+            Some(inst) => Some(number_of(&inst)),
             None => None,
         }
     }

@@ -1,6 +1,9 @@
 //! The steps of a system: each is that of a manager.
 
-use super::{Act, Answer, Global, InstNo, Kind, Memory, Named, Parcel, ProcNo, System};
+use super::{
+    Act, Answer, Ask, Count, Effects, Global, InstNo, Kind, Memory, Parcel, ProcNo, System, name_of,
+};
+use kt_spacetime::NamedEvent;
 
 /// What became of a step.
 #[derive(Clone, Copy)]
@@ -23,44 +26,44 @@ impl System {
     ) -> Result<Taken, Memory> {
         self.out.make_room()?;
         let manager = &mut self.managers[at.index()];
-        let out = &mut self.out;
         if manager.inbox().holds().has(from) && !manager.is_ready() {
-            manager.take_held(from, out);
-            self.note_holder(at);
+            let effects = manager.take_held(from);
+            self.put(at, &effects);
             return Ok(Taken::Made);
         }
-        let Some(parcel) = out.channels.front(from, at) else {
+        let Some(parcel) = self.out.channels.front(from, at) else {
+            self.acts = [Act::Nothing, Act::Nothing];
             return Ok(Taken::Made);
         };
-        match *parcel {
-            Parcel::App { label, msg, body } => {
-                manager.take_message(from, label, msg, body, out)?;
-                self.out.channels.pop(from, at);
-                self.note_holder(at);
+        let effects = match *parcel {
+            Parcel::App { label, body, .. } => {
+                manager.take_message(from, Count::new(label.get()).unwrap(), body)?
             }
             Parcel::Ask { inst, kind, label } => {
-                let inst = Named { inst };
-                let answer = manager.meet(from, &inst, kind, label);
+                let inst = name_of(inst);
+                let ask = Ask { inst, kind, label };
+                let answer = manager.meet(from, &ask);
                 let able = match (answer, saved) {
                     (Answer::Saves, None) => return Ok(Taken::Saves),
                     (_, Some(able)) => able,
                     (_, None) => false,
                 };
-                manager.take_ask(from, &inst, kind, label, answer, able, out)?;
-                self.out.channels.pop(from, at);
+                manager.take_ask(from, &ask, answer, able)?
             }
-            Parcel::Reply { inst, willing } => {
-                manager.take_reply(&Named { inst }, willing, out);
-                self.out.channels.pop(from, at);
-                self.note_holder(at);
-            }
-            Parcel::Decide { inst, commit } => {
-                manager.take_decision(&Named { inst }, commit, out);
-                self.out.channels.pop(from, at);
-                self.note_holder(at);
-            }
-        }
+            Parcel::Reply { inst, willing } => manager.take_reply(&name_of(inst), willing),
+            Parcel::Decide { inst, commit } => manager.take_decision(&name_of(inst), commit),
+        };
+        self.out.channels.pop(from, at);
+        self.put(at, &effects);
         Ok(Taken::Made)
+    }
+
+    /// Writes what a step of a process put out.
+    #[inline(always)]
+    fn put(&mut self, p: ProcNo, effects: &Effects) {
+        self.out.put(p, effects);
+        self.acts = effects.acts;
+        self.note_holder(p);
     }
 
     /// Notes whether a process holds messages.
@@ -76,22 +79,13 @@ impl System {
     /// The acts of the last step.
     #[inline(always)]
     pub fn acts(&self) -> [Act; 2] {
-        [self.act(0), self.act(1)]
+        self.acts
     }
 
     /// Whether the last step told acts.
     #[inline(always)]
     pub fn told_acts(&self) -> bool {
-        self.out.told > 0
-    }
-
-    #[inline(always)]
-    fn act(&self, place: usize) -> Act {
-        if place < self.out.told {
-            self.out.acts[place]
-        } else {
-            Act::Nothing
-        }
+        !matches!(self.acts[0], Act::Nothing)
     }
 
     pub fn take(
@@ -115,7 +109,12 @@ impl System {
         }
         match self.out.channels.front(from, at) {
             Some(Parcel::Ask { inst, kind, label }) => {
-                match manager.meet(from, &Named { inst: *inst }, *kind, *label) {
+                let ask = Ask {
+                    inst: name_of(*inst),
+                    kind: *kind,
+                    label: *label,
+                };
+                match manager.meet(from, &ask) {
                     Answer::Saves => true,
                     _ => false,
                 }
@@ -175,15 +174,18 @@ impl System {
         acts: &mut [Act; 2],
     ) -> Result<(), Memory> {
         self.out.make_room()?;
-        self.managers[p.index()].send(to, body, &mut self.out);
-        *acts = [Act::Nothing, Act::Nothing];
+        self.out.make_room_to_send(p)?;
+        let effects = self.managers[p.index()].send(to, body);
+        self.put(p, &effects);
+        *acts = effects.acts;
         Ok(())
     }
 
     pub fn fail(&mut self, p: ProcNo, acts: &mut [Act; 2]) -> Result<(), Memory> {
         self.out.make_room()?;
-        self.managers[p.index()].fail(&mut self.out);
-        *acts = self.acts();
+        let effects = self.managers[p.index()].fail();
+        self.put(p, &effects);
+        *acts = effects.acts;
         Ok(())
     }
 
@@ -213,12 +215,12 @@ impl System {
             return Ok(());
         };
         self.out.make_room()?;
-        let began = self.managers[p.index()].begin(&Named { inst }, kind, able, &mut self.out)?;
-        if began {
+        let effects = self.managers[p.index()].begin(&name_of(inst), kind, able)?;
+        if let Some(NamedEvent::Began { .. }) = effects.rows[0] {
             self.begun = inst.get();
         }
-        self.note_holder(p);
-        *acts = self.acts();
+        self.put(p, &effects);
+        *acts = effects.acts;
         Ok(())
     }
 }
