@@ -46,42 +46,92 @@ pub enum Parcels {
 /// What a step puts out: its rows in order, what is to be done to the object in order, and the parcels.
 #[derive(Drop)]
 pub struct Effects {
-    pub rows: [Option<NamedEvent>; 4],
-    pub acts: [Act; 2],
-    pub parcels: Parcels,
+    rows: [NamedEvent; 4],
+    row_count: usize,
+    acts: [Act; 2],
+    act_count: usize,
+    parcels: Parcels,
 }
-
-/// Nothing to be done to an object.
-pub(crate) const NO_ACTS: [Act; 2] = [Act::Nothing, Act::Nothing];
 
 impl Effects {
     /// Nothing.
-    #[inline(always)]
-    pub fn none() -> Effects {
+    pub fn new() -> Effects {
         Effects {
-            rows: [None, None, None, None],
-            acts: NO_ACTS,
+            rows: [NamedEvent::Failed; 4],
+            row_count: 0,
+            acts: [Act::Nothing; 2],
+            act_count: 0,
             parcels: Parcels::Nothing,
         }
     }
 
-    /// One row alone.
+    /// Nothing any more.
     #[inline(always)]
-    pub(crate) fn told(row: NamedEvent) -> Effects {
-        Effects {
-            rows: [Some(row), None, None, None],
-            acts: NO_ACTS,
-            parcels: Parcels::Nothing,
+    pub fn clear(&mut self) {
+        self.row_count = 0;
+        self.act_count = 0;
+        match &self.parcels {
+            Parcels::Nothing => {}
+            _ => self.parcels = Parcels::Nothing,
         }
     }
 
-    /// One parcel, with a row or without.
+    /// The rows.
     #[inline(always)]
-    pub(crate) fn put(row: Option<NamedEvent>, to: ProcNo, parcel: NodeParcel) -> Effects {
-        Effects {
-            rows: [row, None, None, None],
-            acts: NO_ACTS,
-            parcels: Parcels::One { to, parcel },
+    pub fn rows(&self) -> &[NamedEvent] {
+        &self.rows[..self.row_count]
+    }
+
+    /// The acts.
+    #[inline(always)]
+    pub fn acts(&self) -> [Act; 2] {
+        [self.act_at(0), self.act_at(1)]
+    }
+
+    #[inline(always)]
+    fn act_at(&self, place: usize) -> Act {
+        if place < self.act_count {
+            self.acts[place]
+        } else {
+            Act::Nothing
         }
+    }
+
+    /// Whether there are acts.
+    #[inline(always)]
+    pub fn told_acts(&self) -> bool {
+        self.act_count > 0
+    }
+
+    /// The parcels.
+    #[inline(always)]
+    pub fn parcels(&self) -> &Parcels {
+        &self.parcels
+    }
+
+    /// One row more.
+    #[inline(always)]
+    pub(crate) fn row(&mut self, row: NamedEvent) {
+        self.rows[self.row_count] = row;
+        self.row_count += 1;
+    }
+
+    /// One act more.
+    #[inline(always)]
+    pub(crate) fn act(&mut self, act: Act) {
+        self.acts[self.act_count] = act;
+        self.act_count += 1;
+    }
+
+    /// One parcel.
+    #[inline(always)]
+    pub(crate) fn put(&mut self, to: ProcNo, parcel: NodeParcel) {
+        self.parcels = Parcels::One { to, parcel };
+    }
+
+    /// Those of a step that has no other ones.
+    #[inline(always)]
+    pub(crate) fn put_all(&mut self, parcels: Parcels) {
+        self.parcels = parcels;
     }
 }

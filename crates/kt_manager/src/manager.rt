@@ -1,6 +1,6 @@
 //! The manager.
 
-use crate::effects::{Effects, NO_ACTS, NodeParcel, Parcels};
+use crate::effects::{Effects, NodeParcel, Parcels};
 use crate::inbox::{Inbox, Item};
 use crate::meeting::{Answer, Ask};
 use kt_base::{Cause, InstNo, Kind, Label, Memory, ProcNo, ProcSet, Verb};

@@ -25,7 +25,7 @@ pub struct System {
     size: usize,
     managers: Vec<Manager>,
     out: Outbox,
-    acts: [Act; 2],
+    told: Effects,
     begun: u16,
     holders: ProcSet,
 }
@@ -53,7 +53,7 @@ impl System {
             size: processes,
             managers,
             out: Outbox::new(alloc, processes, used, instances)?,
-            acts: [Act::Nothing, Act::Nothing],
+            told: Effects::new(),
             begun: 0,
             holders: ProcSet::empty(),
         })

@@ -2,11 +2,10 @@
 #![tactic(auto)]
 
 mod node;
-mod output;
 mod text;
 
 use kt_base::{Label, ProcNo};
-use kt_manager::NodeParcel;
+use kt_manager::{Effects, NodeParcel};
 use kt_spacetime::Count;
 use node::{Envelope, Node};
 use std::alloc::Global;
@@ -28,14 +27,12 @@ fn message(size: u64, taken: u64) -> Envelope {
     }
 }
 
-fn take_all(node: &mut Node, size: u64, first: u64, count: u64) -> u64 {
+fn take_all(node: &mut Node, out: &mut Effects, size: u64, first: u64, count: u64) -> u64 {
     let mut made: u64 = 0;
     for place in first..first + count {
         let envelope = message(size, place);
-        if let Ok(Some(output)) = node.deliver(envelope.from, true, &envelope) {
-            if output.effects.rows[0].is_some() {
-                made += 1;
-            }
+        if let Ok(true) = node.deliver(envelope.from, true, &envelope, out) {
+            made += out.rows().len() as u64;
         }
     }
     made
@@ -64,7 +61,7 @@ fn take_all_today(alloc: Global, node: &mut kt_node::Node, size: u64, count: u64
     made
 }
 
-fn doors(alloc: Global, node: &Node, size: u64, kept: u64, count: u64) -> u64 {
+fn doors(alloc: Global, node: &Node, out: &mut Effects, size: u64, kept: u64, count: u64) -> u64 {
     let mut bytes = Vec::new(alloc);
     let mut after = Vec::new(alloc);
     if text::save(node, &mut bytes).is_err() {
@@ -73,7 +70,7 @@ fn doors(alloc: Global, node: &Node, size: u64, kept: u64, count: u64) -> u64 {
     let mut made: u64 = bytes.len() as u64;
     for _one in 0..count {
         if let Ok(mut loaded) = text::load(alloc, &bytes) {
-            made += take_all(&mut loaded, size, kept, 1);
+            made += take_all(&mut loaded, out, size, kept, 1);
             if text::save(&loaded, &mut after).is_err() {
                 return 0;
             }
@@ -107,11 +104,12 @@ fn main(rt: HostRuntime) -> io::Result<()> {
             made = take_all_today(alloc, &mut node, size, count);
         }
     } else if let Ok(mut node) = Node::new(alloc, me, size as usize, none) {
-        made = take_all(&mut node, size, 0, kept);
+        let mut out = Effects::new();
+        made = take_all(&mut node, &mut out, size, 0, kept);
         made = if mode == 2 {
-            take_all(&mut node, size, kept, count)
+            take_all(&mut node, &mut out, size, kept, count)
         } else {
-            doors(alloc, &node, size, kept, count)
+            doors(alloc, &node, &mut out, size, kept, count)
         };
     }
     println!(rt; "{made}")

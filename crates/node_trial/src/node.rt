@@ -1,6 +1,5 @@
 //! A node: a manager, numbers and a clock.
 
-use crate::output::Output;
 use kt_base::{Label, Memory, ProcNo, ProcSet};
 use kt_manager::{Ask, Effects, Manager, NodeParcel, Parcels, is_one};
 use kt_plan::Act;
@@ -80,27 +79,26 @@ impl Node {
         })
     }
 
-    /// A parcel of another process comes: what its step puts out, where it makes one.
+    /// A parcel of another process comes: whether it made a step.
     pub fn deliver(
         &mut self,
         from: ProcNo,
         able: bool,
         envelope: &Envelope,
-    ) -> Result<Option<Output>, Fault> {
+        out: &mut Effects,
+    ) -> Result<bool, Fault> {
         if !self.meet(from, envelope)? {
-            return Ok(None);
+            return Ok(false);
         }
         let clock = self.clock.max(envelope.clock);
         if clock >= MOST {
             return Err(Fault::ClockSpent);
         }
-        let effects = self.take(from, able, &envelope.parcel)?;
+        out.clear();
+        self.take(from, able, &envelope.parcel, out)?;
         self.taken[from.index()] = envelope.number;
-        self.put(clock + 1, &effects);
-        Ok(Some(Output {
-            clock: clock + 1,
-            effects,
-        }))
+        self.put(clock + 1, out);
+        Ok(true)
     }
 
     #[inline(always)]
@@ -109,7 +107,8 @@ impl Node {
         from: ProcNo,
         able: bool,
         parcel: &NodeParcel,
-    ) -> Result<Effects, Fault> {
+        out: &mut Effects,
+    ) -> Result<(), Fault> {
         if from.index() >= self.size || from.get() == self.manager.me().get() {
             return Err(Fault::Unknown);
         }
@@ -117,38 +116,45 @@ impl Node {
             return Err(Fault::HeldFirst);
         }
         match *parcel {
-            NodeParcel::App { label, body } => Ok(self.manager.take_message(from, label, body)?),
+            NodeParcel::App { label, body } => {
+                self.manager.take_message(from, label, body, out)?;
+            }
             NodeParcel::Ask { inst, kind, label } => {
-                self.take_ask(from, &Ask { inst, kind, label }, able)
+                self.take_ask(from, &Ask { inst, kind, label }, able, out)?;
             }
             NodeParcel::Reply { inst, willing } => {
-                if !self.awaits(from, &inst) {
-                    return Ok(Effects::none());
+                if self.awaits(from, &inst) {
+                    self.answered = self.answered.with(from);
+                    self.manager.take_reply(&inst, willing, out);
                 }
-                self.answered = self.answered.with(from);
-                Ok(self.manager.take_reply(&inst, willing))
             }
             NodeParcel::Decide { inst, commit } => {
-                if !self.heeds(from, &inst) {
-                    return Ok(Effects::none());
+                if self.heeds(from, &inst) {
+                    self.manager.take_decision(&inst, commit, out);
                 }
-                Ok(self.manager.take_decision(&inst, commit))
             }
         }
+        Ok(())
     }
 
-    fn take_ask(&mut self, from: ProcNo, ask: &Ask, able: bool) -> Result<Effects, Fault> {
+    fn take_ask(
+        &mut self,
+        from: ProcNo,
+        ask: &Ask,
+        able: bool,
+        out: &mut Effects,
+    ) -> Result<(), Fault> {
         if !self.is_begun(&ask.inst) {
             return Err(Fault::NotBegun);
         }
         let was_outside = self.manager.is_outside();
         let answer = self.manager.meet(from, ask);
-        let effects = self.manager.take_ask(from, ask, answer, able)?;
+        self.manager.take_ask(from, ask, answer, able, out)?;
         self.asks[from.index()] = Some(ask.inst);
         if was_outside {
             self.answered = ProcSet::empty();
         }
-        Ok(effects)
+        Ok(())
     }
 
     /// Whether it awaits a reply of a process in this instance.
@@ -227,7 +233,7 @@ impl Node {
     #[inline(always)]
     fn put(&mut self, clock: u64, effects: &Effects) {
         self.clock = clock;
-        match &effects.parcels {
+        match effects.parcels() {
             Parcels::Nothing => {}
             Parcels::One { to, .. } => self.sent[to.index()] += 1,
             Parcels::Asks { asks, .. } => {
@@ -243,16 +249,16 @@ impl Node {
                 }
             }
         }
-        for row in &effects.rows {
+        for row in effects.rows() {
             match row {
-                Some(NamedEvent::Sent { label, .. }) => self.live.sent = label.get(),
-                Some(NamedEvent::Received { from, label }) => {
+                NamedEvent::Sent { label, .. } => self.live.sent = label.get(),
+                NamedEvent::Received { from, label } => {
                     self.live.received[from.index()] = label.get();
                 }
                 _ => {}
             }
         }
-        for act in &effects.acts {
+        for act in &effects.acts() {
             match act {
                 Act::Keep => self.tentative = self.live,
                 Act::Promote => self.permanent = self.tentative,

@@ -1,71 +1,60 @@
 //! Replies, decisions, and the end of an instance.
 
 use super::joining::reply;
-use super::{
-    Act, Action, Effects, InstName, Manager, NamedEvent, Parcels, ProcSet,
-};
+use super::{Act, Action, Effects, InstName, Manager, NamedEvent, Parcels};
 
 impl Manager {
     /// A reply of a process comes.
     #[inline(always)]
-    pub fn take_reply(&mut self, inst: &InstName, willing: bool) -> Effects {
+    pub fn take_reply(&mut self, inst: &InstName, willing: bool, out: &mut Effects) {
         match self.process.hear_reply(willing) {
-            Action::Reply { to, willing, .. } => Effects::put(None, to, reply(inst, willing)),
-            Action::Settle { commit, .. } => {
-                let decided = NamedEvent::Decided {
-                    inst: *inst,
-                    commit,
-                };
-                self.close(inst, commit, Some(decided))
-            }
-            Action::Nothing | Action::Refuse(_) | Action::Join { .. } => Effects::none(),
+            Action::Reply { to, willing, .. } => out.put(to, reply(inst, willing)),
+            Action::Settle { commit, .. } => self.decide(inst, commit, out),
+            Action::Nothing | Action::Refuse(_) | Action::Join { .. } => {}
         }
     }
 
     /// A decision of a process comes.
     #[inline(always)]
-    pub fn take_decision(&mut self, inst: &InstName, commit: bool) -> Effects {
-        if !self.is_in(inst) {
-            return Effects::none();
+    pub fn take_decision(&mut self, inst: &InstName, commit: bool, out: &mut Effects) {
+        if self.is_in(inst) {
+            self.close(inst, commit, out);
         }
-        self.close(inst, commit, None)
+    }
+
+    /// It decides its instance.
+    pub(super) fn decide(&mut self, inst: &InstName, commit: bool, out: &mut Effects) {
+        out.row(NamedEvent::Decided {
+            inst: *inst,
+            commit,
+        });
+        self.close(inst, commit, out);
     }
 
     /// It closes its instance, and tells the decision to those that it asked.
-    fn close(&mut self, inst: &InstName, commit: bool, decided: Option<NamedEvent>) -> Effects {
-        let act = self.closing_act(commit);
-        let to = self.leave(commit);
-        let closed = NamedEvent::Closed { inst: *inst };
-        Effects {
-            rows: [decided, Some(closed), None, None],
-            acts: [act, Act::Nothing],
-            parcels: Parcels::Decisions {
+    fn close(&mut self, inst: &InstName, commit: bool, out: &mut Effects) {
+        let is_rollback = self.process.is_ready();
+        self.settle_inbox(is_rollback, commit);
+        self.inst = None;
+        let to = self.process.close(commit);
+        if to.first().is_some() {
+            out.put_all(Parcels::Decisions {
                 inst: *inst,
                 commit,
                 to,
-            },
+            });
+        }
+        out.row(NamedEvent::Closed { inst: *inst });
+        match (is_rollback, commit) {
+            (true, true) => out.act(Act::Restore),
+            (true, false) => {}
+            (false, true) => out.act(Act::Promote),
+            (false, false) => out.act(Act::Discard),
         }
     }
 
-    /// What it does to its saved states and its object when it closes its instance.
-    pub(super) fn closing_act(&self, commit: bool) -> Act {
-        match (self.process.is_ready(), commit) {
-            (true, true) => Act::Restore,
-            (true, false) => Act::Nothing,
-            (false, true) => Act::Promote,
-            (false, false) => Act::Discard,
-        }
-    }
-
-    /// It leaves its instance, and answers whom it asked.
-    pub(super) fn leave(&mut self, commit: bool) -> ProcSet {
-        self.settle_inbox(commit);
-        self.inst = None;
-        self.process.close(commit)
-    }
-
-    fn settle_inbox(&mut self, commit: bool) {
-        match (self.process.is_ready(), commit) {
+    fn settle_inbox(&mut self, is_rollback: bool, commit: bool) {
+        match (is_rollback, commit) {
             (true, true) => self.put_back(),
             (true, false) => {}
             (false, true) => self.inbox.forget(),

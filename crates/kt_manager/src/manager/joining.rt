@@ -1,6 +1,6 @@
 //! Beginning an instance, and asks to join one.
 
-use super::messages::refusal;
+use super::messages::refused;
 use super::{
     Act, Action, Answer, Ask, Asks, Effects, InstName, Kind, Label, Manager, Memory, NamedCause,
     NamedEvent, NodeParcel, Parcels, ProcNo, Then, Verb, here, is_one,
@@ -8,8 +8,14 @@ use super::{
 use std::alloc::Global;
 
 impl Manager {
-    /// It begins an instance of this name, or refuses.
-    pub fn begin(&mut self, inst: &InstName, kind: Kind, able: bool) -> Result<Effects, Memory> {
+    /// It begins an instance of this name, or refuses. Whether it began.
+    pub fn begin(
+        &mut self,
+        inst: &InstName,
+        kind: Kind,
+        able: bool,
+        out: &mut Effects,
+    ) -> Result<bool, Memory> {
         let action = match kind {
             Kind::Checkpoint => {
                 self.process
@@ -17,18 +23,18 @@ impl Manager {
             }
             Kind::Rollback => self.process.begin_rollback(here())?,
         };
-        Ok(self.begun(inst, kind, action))
-    }
-
-    /// What follows from a command to begin an instance.
-    fn begun(&mut self, inst: &InstName, kind: Kind, action: Action) -> Effects {
         match action {
-            Action::Refuse(cause) => refusal(verb_of(kind), self.named(&cause)),
-            Action::Join { ask, goes } => {
-                let began = NamedEvent::Began { inst: *inst, kind };
-                self.join(inst, kind, Some(began), ask, goes)
+            Action::Refuse(cause) => {
+                let cause = self.named(&cause);
+                out.row(refused(verb_of(kind), cause));
+                Ok(false)
             }
-            Action::Nothing | Action::Reply { .. } | Action::Settle { .. } => Effects::none(),
+            Action::Join { ask, goes } => {
+                out.row(NamedEvent::Began { inst: *inst, kind });
+                self.join(inst, kind, ask, goes, out);
+                Ok(true)
+            }
+            Action::Nothing | Action::Reply { .. } | Action::Settle { .. } => Ok(false),
         }
     }
 
@@ -70,33 +76,36 @@ impl Manager {
         ask: &Ask,
         answer: Answer,
         able: bool,
-    ) -> Result<Effects, Memory> {
+        out: &mut Effects,
+    ) -> Result<(), Memory> {
         let cause = match answer {
-            Answer::Willing => return self.agree(from, ask),
+            Answer::Willing => return self.agree(from, ask, out),
             Answer::Busy => self.busy(),
             Answer::Down => NamedCause::Down,
             Answer::Saves => {
                 if able {
-                    return self.take_joining(from, ask);
+                    return self.take_joining(from, ask, out);
                 }
                 NamedCause::NoSave
             }
-            Answer::Rolls => return self.take_joining(from, ask),
+            Answer::Rolls => return self.take_joining(from, ask, out),
         };
-        let unwilling = NamedEvent::Unwilling {
+        out.row(NamedEvent::Unwilling {
             inst: ask.inst,
             cause,
-        };
-        Ok(Effects::put(Some(unwilling), from, reply(&ask.inst, false)))
+        });
+        out.put(from, reply(&ask.inst, false));
+        Ok(())
     }
 
     /// It is willing. In a rollback it notes the label of who asked.
     #[inline(always)]
-    fn agree(&mut self, from: ProcNo, ask: &Ask) -> Result<Effects, Memory> {
+    fn agree(&mut self, from: ProcNo, ask: &Ask, out: &mut Effects) -> Result<(), Memory> {
         if self.process.is_ready() {
             self.note(from, ask.label)?;
         }
-        Ok(Effects::put(None, from, reply(&ask.inst, true)))
+        out.put(from, reply(&ask.inst, true));
+        Ok(())
     }
 
     /// It notes the label of an ask to join the rollback that it is in.
@@ -107,7 +116,7 @@ impl Manager {
 
     /// It takes an ask by which it joins.
     #[inline(never)]
-    fn take_joining(&mut self, from: ProcNo, ask: &Ask) -> Result<Effects, Memory> {
+    fn take_joining(&mut self, from: ProcNo, ask: &Ask, out: &mut Effects) -> Result<(), Memory> {
         let action = match ask.kind {
             Kind::Checkpoint => self.process.hear_ask_to_save(
                 true,
@@ -118,61 +127,31 @@ impl Manager {
             )?,
             Kind::Rollback => self.process.hear_ask_to_roll(from, here(), ask.label)?,
         };
-        match action {
-            Action::Join { ask: asks, goes } => {
-                Ok(self.join(&ask.inst, ask.kind, None, asks, goes))
-            }
-            _ => Ok(Effects::none()),
+        if let Action::Join { ask: asks, goes } = action {
+            self.join(&ask.inst, ask.kind, asks, goes, out);
         }
+        Ok(())
     }
 
-    /// Its process has joined an instance, which it began or not: it asks these, or goes on at once.
-    fn join(
-        &mut self,
-        inst: &InstName,
-        kind: Kind,
-        began: Option<NamedEvent>,
-        asks: Asks,
-        goes: Then,
-    ) -> Effects {
+    /// Its process has joined an instance: it asks these, or goes on at once.
+    fn join(&mut self, inst: &InstName, kind: Kind, asks: Asks, goes: Then, out: &mut Effects) {
         self.inst = Some(*inst);
-        if let Kind::Checkpoint = kind {
-            self.inbox.set_marks();
-        }
-        let row = Some(joining_row(inst, kind));
-        let act = joining_act(kind);
-        match goes {
-            Then::Wait => Effects {
-                rows: [began, row, None, None],
-                acts: [act, Act::Nothing],
-                parcels: Parcels::Asks {
-                    inst: *inst,
-                    kind,
-                    asks,
-                },
-            },
-            Then::Answer(to) => Effects {
-                rows: [began, row, None, None],
-                acts: [act, Act::Nothing],
-                parcels: Parcels::One {
-                    to,
-                    parcel: reply(inst, true),
-                },
-            },
-            Then::Commit => {
-                let last = self.closing_act(true);
-                let _told = self.leave(true);
-                let decided = NamedEvent::Decided {
-                    inst: *inst,
-                    commit: true,
-                };
-                let closed = NamedEvent::Closed { inst: *inst };
-                Effects {
-                    rows: [began, row, Some(decided), Some(closed)],
-                    acts: two_acts(act, last),
-                    parcels: Parcels::Nothing,
-                }
+        match kind {
+            Kind::Checkpoint => {
+                self.inbox.set_marks();
+                out.row(NamedEvent::Took { inst: *inst });
+                out.act(Act::Keep);
             }
+            Kind::Rollback => out.row(NamedEvent::Ready { inst: *inst }),
+        }
+        match goes {
+            Then::Wait => out.put_all(Parcels::Asks {
+                inst: *inst,
+                kind,
+                asks,
+            }),
+            Then::Answer(to) => out.put(to, reply(inst, true)),
+            Then::Commit => self.decide(inst, true, out),
         }
     }
 }
@@ -191,29 +170,5 @@ fn verb_of(kind: Kind) -> Verb {
     match kind {
         Kind::Checkpoint => Verb::Checkpoint,
         Kind::Rollback => Verb::Rollback,
-    }
-}
-
-/// The row of who joins an instance.
-fn joining_row(inst: &InstName, kind: Kind) -> NamedEvent {
-    match kind {
-        Kind::Checkpoint => NamedEvent::Took { inst: *inst },
-        Kind::Rollback => NamedEvent::Ready { inst: *inst },
-    }
-}
-
-/// What it does to its saved states that joins an instance.
-fn joining_act(kind: Kind) -> Act {
-    match kind {
-        Kind::Checkpoint => Act::Keep,
-        Kind::Rollback => Act::Nothing,
-    }
-}
-
-/// Two acts in order, nothing last.
-fn two_acts(first: Act, second: Act) -> [Act; 2] {
-    match first {
-        Act::Nothing => [second, Act::Nothing],
-        _ => [first, second],
     }
 }

@@ -88,12 +88,10 @@ impl Outbox {
     /// Writes what a step of a process put out.
     #[inline(always)]
     pub(super) fn put(&mut self, p: ProcNo, effects: &Effects) {
-        for row in &effects.rows {
-            if let Some(row) = row {
-                self.write(p, row);
-            }
+        for row in effects.rows() {
+            self.write(p, row);
         }
-        match &effects.parcels {
+        match effects.parcels() {
             Parcels::Nothing => {}
             Parcels::One { to, parcel } => self.put_one(p, *to, parcel),
             Parcels::Asks { inst, kind, asks } => {

@@ -1,9 +1,8 @@
 //! The steps of a system: each is that of a manager.
 
 use super::{
-    Act, Answer, Ask, Count, Effects, Global, InstNo, Kind, Memory, Parcel, ProcNo, System, name_of,
+    Act, Answer, Ask, Count, Global, InstNo, Kind, Memory, Parcel, ProcNo, System, name_of,
 };
-use kt_spacetime::NamedEvent;
 
 /// What became of a step.
 #[derive(Clone, Copy)]
@@ -25,19 +24,20 @@ impl System {
         saved: Option<bool>,
     ) -> Result<Taken, Memory> {
         self.out.make_room()?;
+        self.told.clear();
         let manager = &mut self.managers[at.index()];
+        let told = &mut self.told;
         if manager.inbox().holds().has(from) && !manager.is_ready() {
-            let effects = manager.take_held(from);
-            self.put(at, &effects);
+            manager.take_held(from, told);
+            self.put(at);
             return Ok(Taken::Made);
         }
         let Some(parcel) = self.out.channels.front(from, at) else {
-            self.acts = [Act::Nothing, Act::Nothing];
             return Ok(Taken::Made);
         };
-        let effects = match *parcel {
+        match *parcel {
             Parcel::App { label, body, .. } => {
-                manager.take_message(from, Count::new(label.get()).unwrap(), body)?
+                manager.take_message(from, Count::new(label.get()).unwrap(), body, told)?;
             }
             Parcel::Ask { inst, kind, label } => {
                 let inst = name_of(inst);
@@ -48,21 +48,22 @@ impl System {
                     (_, Some(able)) => able,
                     (_, None) => false,
                 };
-                manager.take_ask(from, &ask, answer, able)?
+                manager.take_ask(from, &ask, answer, able, told)?;
             }
-            Parcel::Reply { inst, willing } => manager.take_reply(&name_of(inst), willing),
-            Parcel::Decide { inst, commit } => manager.take_decision(&name_of(inst), commit),
-        };
+            Parcel::Reply { inst, willing } => manager.take_reply(&name_of(inst), willing, told),
+            Parcel::Decide { inst, commit } => {
+                manager.take_decision(&name_of(inst), commit, told);
+            }
+        }
         self.out.channels.pop(from, at);
-        self.put(at, &effects);
+        self.put(at);
         Ok(Taken::Made)
     }
 
     /// Writes what a step of a process put out.
     #[inline(always)]
-    fn put(&mut self, p: ProcNo, effects: &Effects) {
-        self.out.put(p, effects);
-        self.acts = effects.acts;
+    fn put(&mut self, p: ProcNo) {
+        self.out.put(p, &self.told);
         self.note_holder(p);
     }
 
@@ -79,13 +80,13 @@ impl System {
     /// The acts of the last step.
     #[inline(always)]
     pub fn acts(&self) -> [Act; 2] {
-        self.acts
+        self.told.acts()
     }
 
     /// Whether the last step told acts.
     #[inline(always)]
     pub fn told_acts(&self) -> bool {
-        !matches!(self.acts[0], Act::Nothing)
+        self.told.told_acts()
     }
 
     pub fn take(
@@ -175,17 +176,19 @@ impl System {
     ) -> Result<(), Memory> {
         self.out.make_room()?;
         self.out.make_room_to_send(p)?;
-        let effects = self.managers[p.index()].send(to, body);
-        self.put(p, &effects);
-        *acts = effects.acts;
+        self.told.clear();
+        self.managers[p.index()].send(to, body, &mut self.told);
+        self.put(p);
+        *acts = [Act::Nothing, Act::Nothing];
         Ok(())
     }
 
     pub fn fail(&mut self, p: ProcNo, acts: &mut [Act; 2]) -> Result<(), Memory> {
         self.out.make_room()?;
-        let effects = self.managers[p.index()].fail();
-        self.put(p, &effects);
-        *acts = effects.acts;
+        self.told.clear();
+        self.managers[p.index()].fail(&mut self.told);
+        self.put(p);
+        *acts = self.acts();
         Ok(())
     }
 
@@ -215,12 +218,13 @@ impl System {
             return Ok(());
         };
         self.out.make_room()?;
-        let effects = self.managers[p.index()].begin(&name_of(inst), kind, able)?;
-        if let Some(NamedEvent::Began { .. }) = effects.rows[0] {
+        self.told.clear();
+        let began = self.managers[p.index()].begin(&name_of(inst), kind, able, &mut self.told)?;
+        if began {
             self.begun = inst.get();
         }
-        self.put(p, &effects);
-        *acts = effects.acts;
+        self.put(p);
+        *acts = self.acts();
         Ok(())
     }
 }
