@@ -103,6 +103,18 @@ impl Effects {
         self.act_count > 0
     }
 
+    /// Whether there are rows.
+    #[inline(always)]
+    pub fn has_rows(&self) -> bool {
+        self.row_count > 0
+    }
+
+    /// Whether there are parcels.
+    #[inline(always)]
+    pub fn has_parcels(&self) -> bool {
+        !matches!(self.parcels, Parcels::Nothing)
+    }
+
     /// The parcels.
     #[inline(always)]
     pub fn parcels(&self) -> &Parcels {

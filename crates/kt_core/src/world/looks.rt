@@ -157,6 +157,7 @@ impl World {
     }
 
     /// A process's next command, which can be done, as a step.
+    #[inline(always)]
     fn ready_to_do(&self, p: ProcNo, command: &Command) -> Result<Ready, StepFault>
         requires enabled { can_make self.now (Step.Do p) ≡ true }
         requires next { open_command self.now.agenda p ≡ Some command.now }

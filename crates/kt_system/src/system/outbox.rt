@@ -85,15 +85,23 @@ impl Outbox {
         self.sent_rows[from.index()][(label.get() - self.first) as usize - 1]
     }
 
-    /// Writes what a step of a process put out.
-    #[inline(always)]
-    pub(super) fn put(&mut self, p: ProcNo, effects: &Effects) {
-        for row in effects.rows() {
+    /// Writes the rows of a step of a process.
+    #[inline(never)]
+    pub(super) fn write_all(&mut self, p: ProcNo, rows: &[NamedEvent]) {
+        for row in rows {
             self.write(p, row);
         }
-        match effects.parcels() {
+    }
+
+    /// Puts the parcels of a step of a process, whose rows are written.
+    #[inline(never)]
+    pub(super) fn put_all(&mut self, p: ProcNo, parcels: &Parcels) {
+        match parcels {
             Parcels::Nothing => {}
-            Parcels::One { to, parcel } => self.put_one(p, *to, parcel),
+            Parcels::One { to, parcel } => {
+                let parcel = self.numbered(parcel);
+                self.channels.push_reserved(p, *to, parcel);
+            }
             Parcels::Asks { inst, kind, asks } => {
                 self.put_asks(p, number_of(inst), *kind, asks);
             }
@@ -164,31 +172,29 @@ impl Outbox {
         }
     }
 
+    /// A parcel by numbers, which is counted; a message is that of the last row.
     #[inline(always)]
-    fn put_one(&mut self, p: ProcNo, to: ProcNo, parcel: &NodeParcel) {
+    fn numbered(&mut self, parcel: &NodeParcel) -> Parcel {
         match *parcel {
-            NodeParcel::App { label, body } => {
-                let msg = self.msg(p, label);
-                let label = Label::new(label.get()).unwrap();
-                self.channels
-                    .push_reserved(p, to, Parcel::App { label, msg, body });
-            }
+            NodeParcel::App { label, body } => Parcel::App {
+                label: Label::new(label.get()).unwrap(),
+                msg: MsgNo::after(self.log.rows().len() - 1),
+                body,
+            },
             NodeParcel::Reply { inst, willing } => {
                 let inst = number_of(&inst);
-                self.channels
-                    .push_reserved(p, to, Parcel::Reply { inst, willing });
                 self.tally(inst, 0, 1, 0);
+                Parcel::Reply { inst, willing }
             }
-            NodeParcel::Ask { inst, kind, label } => {
-                let inst = number_of(&inst);
-                self.channels
-                    .push_reserved(p, to, Parcel::Ask { inst, kind, label });
-            }
-            NodeParcel::Decide { inst, commit } => {
-                let inst = number_of(&inst);
-                self.channels
-                    .push_reserved(p, to, Parcel::Decide { inst, commit });
-            }
+            NodeParcel::Ask { inst, kind, label } => Parcel::Ask {
+                inst: number_of(&inst),
+                kind,
+                label,
+            },
+            NodeParcel::Decide { inst, commit } => Parcel::Decide {
+                inst: number_of(&inst),
+                commit,
+            },
         }
     }
 

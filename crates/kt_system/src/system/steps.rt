@@ -30,6 +30,7 @@ impl System {
         if manager.inbox().holds().has(from) && !manager.is_ready() {
             manager.take_held(from, told);
             self.put(at);
+            self.note_holder(at);
             return Ok(Taken::Made);
         }
         let Some(parcel) = self.out.channels.front(from, at) else {
@@ -38,6 +39,7 @@ impl System {
         match *parcel {
             Parcel::App { label, body, .. } => {
                 manager.take_message(from, Count::new(label.get()).unwrap(), body, told)?;
+                self.note_holder(at);
             }
             Parcel::Ask { inst, kind, label } => {
                 let inst = name_of(inst);
@@ -50,9 +52,13 @@ impl System {
                 };
                 manager.take_ask(from, &ask, answer, able, told)?;
             }
-            Parcel::Reply { inst, willing } => manager.take_reply(&name_of(inst), willing, told),
+            Parcel::Reply { inst, willing } => {
+                manager.take_reply(&name_of(inst), willing, told);
+                self.note_if_told(at);
+            }
             Parcel::Decide { inst, commit } => {
                 manager.take_decision(&name_of(inst), commit, told);
+                self.note_if_told(at);
             }
         }
         self.out.channels.pop(from, at);
@@ -63,8 +69,20 @@ impl System {
     /// Writes what a step of a process put out.
     #[inline(always)]
     fn put(&mut self, p: ProcNo) {
-        self.out.put(p, &self.told);
-        self.note_holder(p);
+        if self.told.has_rows() {
+            self.out.write_all(p, self.told.rows());
+        }
+        if self.told.has_parcels() {
+            self.out.put_all(p, self.told.parcels());
+        }
+    }
+
+    /// Notes whether a process holds messages, where its step told a row: it may have closed a rollback.
+    #[inline(always)]
+    fn note_if_told(&mut self, p: ProcNo) {
+        if self.told.has_rows() {
+            self.note_holder(p);
+        }
     }
 
     /// Notes whether a process holds messages.
@@ -224,6 +242,7 @@ impl System {
             self.begun = inst.get();
         }
         self.put(p);
+        self.note_holder(p);
         *acts = self.acts();
         Ok(())
     }
