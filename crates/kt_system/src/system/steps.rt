@@ -62,7 +62,12 @@ impl System {
             }
         }
         self.out.channels.pop(from, at);
-        self.put(at);
+        if self.told.has_rows() {
+            self.out.write_all(at, self.told.rows());
+        }
+        if self.told.has_parcels() {
+            self.out.put_all(at, self.told.parcels());
+        }
         Ok(Taken::Made)
     }
 
