@@ -71,6 +71,14 @@ impl Offers {
         }
     }
 
+    /// It takes a body in, where it is up.
+    #[inline(always)]
+    pub(crate) fn take_in(&mut self, body: i64) {
+        if let Some(offer) = self.now {
+            self.now = Some(offer_after(self.kind, offer, body));
+        }
+    }
+
     // What it offers once it has taken in a message, where it is up.
     fn after_message(self, body: i64) -> Offers
         ensures { (kind : ℕ) (d : Due (List ℤ)) (from : ℕ) → self ≡ offers_of kind d

@@ -54,9 +54,24 @@ impl Replay {
             → ReplayOf self.old kinds before.now → ReplayOf self.new kinds (before.now ++ row.now ∷ [])) }
         ensures count { length self.new.objects.items ≡ length self.old.objects.items }
     {
-        let act = act_at(self.instances.as_slice(), before, row);
-        note(&mut self.instances, row)?;
-        act_on(&mut self.objects, row.process(), act);
+        match *row {
+            Event::Received { p, msg, .. } => {
+                let body = body_of(before, msg);
+                take_in(&mut self.objects, p, body);
+            }
+            Event::Took { p, .. } => change(&mut self.objects, p, Act::Keep),
+            Event::Closed { p, inst } => {
+                let act = closing(self.instances.as_slice(), inst);
+                act_on(&mut self.objects, p, act);
+            }
+            Event::Failed { p } => change(&mut self.objects, p, Act::Drop),
+            Event::Began { .. } | Event::Decided { .. } => note(&mut self.instances, row)?,
+            Event::Sent { .. }
+            | Event::Dropped { .. }
+            | Event::Ready { .. }
+            | Event::Unwilling { .. }
+            | Event::Refused { .. } => {}
+        }
         Ok(())
     }
 }
@@ -70,23 +85,6 @@ fn new_objects(alloc: Global, kinds: &[u8]) -> Result<Vec<Offers>, Memory>
         objects.push(Offers::new(*kind))?;
     }
     Ok(objects)
-}
-
-// What a row's process does to its object and its saved states, after the rows before.
-fn act_at(instances: &[Instance], before: &[Event], row: &Event) -> Act
-    ensures { IsLegal (before.now ++ row.now ∷ []) → ShowsReportInstances instances.now (past before.now)
-        → act_of result ≡ acts_of (done before.now) row.now }
-{
-    match *row {
-        Event::Received { from, msg, .. } => Act::Apply {
-            from,
-            body: body_of(before, msg),
-        },
-        Event::Took { .. } => Act::Keep,
-        Event::Closed { inst, .. } => closing(instances, inst),
-        Event::Failed { .. } => Act::Drop,
-        _ => Act::Nothing,
-    }
 }
 
 // The body of a message that these rows sent, or 0.
@@ -132,5 +130,13 @@ fn change(objects: &mut Vec<Offers>, p: ProcNo, act: Act)
     let place = p.index();
     if place < objects.len() {
         objects[place] = objects[place].after(act);
+    }
+}
+
+// The object of a process takes a body in.
+#[inline(always)]
+fn take_in(objects: &mut Vec<Offers>, p: ProcNo, body: i64) {
+    if let Some(object) = objects.get_mut(p.index()) {
+        object.take_in(body);
     }
 }

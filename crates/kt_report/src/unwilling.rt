@@ -14,6 +14,8 @@ use std::marker::Model;
 #[derive(Drop)]
 pub(crate) struct Unwilling {
     lists: Vec<Vec<(ProcNo, Cause)>>,
+    pub(crate) dropped: usize,
+    pub(crate) refuses: bool,
 }
 
 impl Model for Unwilling {
@@ -32,6 +34,8 @@ impl Unwilling {
     {
         let mut unwilling = Unwilling {
             lists: Vec::new(alloc),
+            dropped: 0,
+            refuses: false,
         };
         for row in rows {
             unwilling.note(alloc, *row)?;
@@ -56,6 +60,14 @@ impl Unwilling {
     {
         match row {
             Event::Unwilling { p, inst, cause } => self.add(alloc, inst, p, cause),
+            Event::Dropped { .. } => {
+                self.dropped += 1;
+                Ok(())
+            }
+            Event::Refused { .. } => {
+                self.refuses = true;
+                Ok(())
+            }
             _ => Ok(()),
         }
     }
