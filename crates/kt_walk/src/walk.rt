@@ -370,6 +370,12 @@ impl Walk {
         self.pairs.places(from, to, msg)
     }
 
+    /// Whether there may be a message from one process to another.
+    #[inline(always)]
+    pub fn may_link(&self, from: ProcNo, to: ProcNo) -> bool {
+        self.pairs.used.has(crate::all_pairs::index_of(to, from))
+    }
+
     /// The least message from one process to another that is in both live histories, was sent at one place or later and
     /// received before another one, of those that are kept. Places are counted from 0.
     pub fn link(&self, from: ProcNo, to: ProcNo, sent: usize, received: usize) -> Option<MsgNo>
