@@ -119,6 +119,12 @@ impl Pool {
         Some(&self.cells[first as usize].parcel)
     }
 
+    /// For how many parcels more there is room.
+    #[inline(always)]
+    pub fn spare(&self) -> usize {
+        self.spare
+    }
+
     /// Room for so many parcels more.
     #[inline(always)]
     pub fn reserve(&mut self, count: usize) -> Result<(), Memory> {

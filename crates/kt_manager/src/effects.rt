@@ -97,6 +97,12 @@ impl Effects {
         }
     }
 
+    /// The first act, where there are some.
+    #[inline(always)]
+    pub fn first_act(&self) -> &Act {
+        &self.acts[0]
+    }
+
     /// Whether there are acts.
     #[inline(always)]
     pub fn told_acts(&self) -> bool {

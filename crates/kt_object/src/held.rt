@@ -188,6 +188,18 @@ impl Held {
         Ok(())
     }
 
+    /// Lets the object take a body in, where it is up; whether it is.
+    #[inline(always)]
+    pub fn take_in(&mut self, from: ProcNo, body: i64) -> bool {
+        match &mut self.present {
+            Some(object) => {
+                object.apply(from, body);
+                true
+            }
+            None => false,
+        }
+    }
+
     /// Does an act that fits.
     fn do_fitting(&mut self, act: Act, saved: Option<Vec<u8>>) -> Result<(), RestoreFault>
         requires fits { fits (outline (is_some self.old.present) (is_some self.old.depot.tentative)

@@ -147,6 +147,10 @@ impl RunState {
         self.make_given(steps)?;
         let mut generator = order.generator();
         let mut made = keep.list_of(self.alloc, steps)?;
+        if let (Order::Default, Keep::Log, false) = (order, keep, self.journals.are_kept()) {
+            self.make_by_default()?;
+            return Ok(made);
+        }
         for _number in 0..MAX_STEPS {
             let found = step_in_order(&self.world, &mut generator);
             let Some(step) = found else {
@@ -154,6 +158,32 @@ impl RunState {
             };
             keep.note(&mut made, &step)?;
             self.make(step)?;
+        }
+        unreachable!()
+    }
+
+    /// Default steps, until there is none.
+    fn make_by_default(&mut self) -> Result<(), RunFault> {
+        for _number in 0..MAX_STEPS {
+            self.take_all()?;
+            let Some(step) = self.world.default_step() else {
+                return Ok(());
+            };
+            self.make(step)?;
+        }
+        unreachable!()
+    }
+
+    /// All takes that come next by default, while the log has room.
+    fn take_all(&mut self) -> Result<(), RunFault> {
+        for _number in 0..MAX_STEPS {
+            if !self.world.has_room() {
+                return Ok(());
+            }
+            let Some((at, from)) = self.world.next_take() else {
+                return Ok(());
+            };
+            self.take(at, from)?;
         }
         unreachable!()
     }

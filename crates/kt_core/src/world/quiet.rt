@@ -59,6 +59,12 @@ impl World {
         Ok(taken)
     }
 
+    /// The take that comes next by default, if there is one.
+    #[inline(always)]
+    pub fn next_take(&self) -> Option<(ProcNo, ProcNo)> {
+        self.system.next_take()
+    }
+
     /// Whether the log is full.
     #[inline(always)]
     pub fn has_room(&self) -> bool {
@@ -69,6 +75,12 @@ impl World {
     #[inline(always)]
     pub fn told_acts(&self) -> bool {
         self.system.told_acts()
+    }
+
+    /// The first act of the last step, which told some.
+    #[inline(always)]
+    pub fn first_act(&self) -> &Act {
+        self.system.first_act()
     }
 
     /// The acts of the last step.

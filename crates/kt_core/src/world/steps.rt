@@ -139,12 +139,21 @@ impl World {
 
 /// The next phase opens, where the open one is done and nothing is in transit. While a command of the open one is left, no
 /// process is looked at.
+#[inline(always)]
 pub(super) fn settle(agenda: &mut Agenda, system: &System)
     ensures plan { agenda.new.plan ≡ agenda.old.plan }
     ensures next { agenda.new.next ≡ agenda.old.next }
     ensures settled { SettlesIn system.now agenda.old agenda.new }
     ensures numbered { (p : ℕ) → p < system.now.size → IsNumbered (part_of_side (state_of system.now p).side) }
 {
+    if system.is_still() {
+        open_if_quiet(agenda, system);
+    }
+}
+
+/// The same, where nothing is in transit.
+#[inline(never)]
+fn open_if_quiet(agenda: &mut Agenda, system: &System) {
     let _processes = system.processes();
     if agenda.has_open() {
         return;

@@ -70,13 +70,18 @@ impl RunState {
 
     /// One takes the next parcel of another one.
     #[inline(always)]
-    fn take(&mut self, at: ProcNo, from: ProcNo) -> Result<(), RunFault> {
+    pub(super) fn take(&mut self, at: ProcNo, from: ProcNo) -> Result<(), RunFault> {
         if let Taken::Saves = self.world.take_next(at, from, None)? {
             return self.take_saving(at, from);
         }
         self.done += 1;
         if !self.world.told_acts() {
             return Ok(());
+        }
+        if let Act::Apply { from, body } = *self.world.first_act() {
+            if self.objects[at.index()].take_in(from, body) {
+                return Ok(());
+            }
         }
         self.obey(at, None)
     }

@@ -68,6 +68,14 @@ impl Outbox {
     /// Room for what a step puts out: four rows, and two parcels to each process.
     #[inline(always)]
     pub(super) fn make_room(&mut self) -> Result<(), Memory> {
+        if self.log.spare() >= 4 && self.channels.spare() >= 128 {
+            return Ok(());
+        }
+        self.make_more_room()
+    }
+
+    #[inline(never)]
+    fn make_more_room(&mut self) -> Result<(), Memory> {
         self.log.reserve(4)?;
         self.channels.reserve(128)
     }

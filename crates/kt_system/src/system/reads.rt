@@ -62,6 +62,12 @@ impl System {
         self.senders(at).has(from) || self.held_senders(at).has(from)
     }
 
+    /// Whether no parcel is in a channel or held.
+    #[inline(always)]
+    pub fn is_still(&self) -> bool {
+        self.out.channels.receivers().first().is_none() && self.holds_none()
+    }
+
     pub fn is_quiet(&self) -> bool {
         self.out.channels.receivers().first().is_none()
             && self.holds_none()

@@ -106,6 +106,12 @@ impl System {
         self.told.acts()
     }
 
+    /// The first act of the last step, which told some.
+    #[inline(always)]
+    pub fn first_act(&self) -> &Act {
+        self.told.first_act()
+    }
+
     /// Whether the last step told acts.
     #[inline(always)]
     pub fn told_acts(&self) -> bool {

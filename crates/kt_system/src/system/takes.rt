@@ -50,6 +50,16 @@ impl System {
 
     #[inline(always)]
     pub fn next_take(&self) -> Option<(ProcNo, ProcNo)> {
+        if self.holds_none() {
+            let at = self.out.channels.receivers().first()?;
+            let from = self.senders(at).first()?;
+            return Some((at, from));
+        }
+        self.next_take_of_all()
+    }
+
+    #[inline(never)]
+    fn next_take_of_all(&self) -> Option<(ProcNo, ProcNo)> {
         let at = self.taker()?;
         let from = self.sender(at)?;
         Some((at, from))
