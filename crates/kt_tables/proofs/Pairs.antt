@@ -242,6 +242,12 @@ unfolding IsTable
 table_before low n [] pair h = tt
 table_before low n (first ∷ ps) pair h = (h.0, h.1, h.2, table_before (first.0 + 1) n ps pair h.3)
 
+-- and the last pair's peer is not below the first number
+pub table_above : (low n : ℕ) (ps : Pairs) (pair : ℕ × ℕ) → IsTable low n (ps ++ pair ∷ []) → low ≤ pair.0
+unfolding IsTable
+table_above low n [] pair h = h.0
+table_above low n (first ∷ ps) pair h = let above = table_above (first.0 + 1) n ps pair h.3 in omega (arith, h.0, above)
+
 -- a last pair of another peer says nothing of this one
 pub find_before : (ps : Pairs) (pair : ℕ × ℕ) (q : ℕ) → pair.0 ≢ q → find_label (ps ++ pair ∷ []) q ≡ find_label ps q
 unfolding find_label
@@ -275,6 +281,42 @@ pub find_as_far : (n k : ℕ) (ps : Pairs) (q : ℕ) → IsTable 0 n ps → k �
 find_as_far n k ps q h e = elim (cases_lt q k) [
   | inl less ↦ let b : q < 0 + k = omega (arith, less) in find_take 0 n k ps q h b
   | inr more ↦ let all : length ps ≤ k = omega (arith, e, more) in ap (λ (xs : Pairs). find_label xs q) (take_all k ps all)
+]
+
+-- a last pair that is not of a lesser peer says nothing of a peer's place
+pub place_before : (ps : Pairs) (pair : ℕ × ℕ) (q : ℕ) → q ≤ pair.0 → place_of (ps ++ pair ∷ []) q ≡ place_of ps q
+place_before [] pair q b = place_stop pair [] q b
+place_before (first ∷ ps) pair q b = let h = place_before ps pair q b in grind (arith, nat_tests)
+
+-- a peer above the last one stands behind all
+pub place_last : (low n : ℕ) (ps : Pairs) (pair : ℕ × ℕ) (q : ℕ) → IsTable low n (ps ++ pair ∷ []) → pair.0 < q → place_of (ps ++ pair ∷ []) q ≡ length (ps ++ pair ∷ [])
+unfolding IsTable
+place_last low n [] pair q h b = place_less pair [] q b
+place_last low n (first ∷ ps) pair q h b =
+    let above = table_above (first.0 + 1) n ps pair h.3 in
+    let less : first.0 < q = omega (arith, above, b) in
+    place_less first (ps ++ pair ∷ []) q less ∙ ap suc (place_last (first.0 + 1) n ps pair q h.3 b)
+
+-- no peer below the first has a place further on
+place_below : (low n : ℕ) (ps : Pairs) (q : ℕ) → IsTable low n ps → q ≤ low → place_of ps q ≡ 0
+unfolding IsTable
+place_below low n [] q h b = refl
+place_below low n (pair ∷ ps) q h b = place_stop pair ps q (omega (arith, h.0))
+
+-- the pair of a peer would stand no further on than its number
+pub place_take : (low n k : ℕ) (ps : Pairs) (q : ℕ) → IsTable low n ps → q ≤ low + k → place_of (take k ps) q ≡ place_of ps q
+unfolding IsTable
+place_take low n zero ps q h b = sym (place_below low n ps q h (omega arith))
+place_take low n (suc k) [] q h b = refl
+place_take low n (suc k) (pair ∷ ps) q h b =
+    let l : low ≤ pair.0 = h.0 in
+    let r = place_take (pair.0 + 1) n k ps q h.3 (omega (arith, l)) in
+    grind (arith, nat_tests)
+
+pub place_as_far : (n k : ℕ) (ps : Pairs) (q : ℕ) → IsTable 0 n ps → k ≡ min (length ps) (q + 1) → place_of (take k ps) q ≡ place_of ps q
+place_as_far n k ps q h e = elim (cases_lt q k) [
+  | inl less ↦ let b : q ≤ 0 + k = omega (arith, less) in place_take 0 n k ps q h b
+  | inr more ↦ let all : length ps ≤ k = omega (arith, e, more) in ap (λ (xs : Pairs). place_of xs q) (take_all k ps all)
 ]
 
 -- no pairs have no label

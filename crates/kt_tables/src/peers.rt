@@ -61,6 +61,21 @@ fn place(pairs: &[(ProcNo, Label)], peer: ProcNo) -> usize
     pairs.len()
 }
 
+/// The same in a table, sought from the back: the last pair is mostly the peer's own, or stands before it.
+#[inline(always)]
+fn place_from_back(pairs: &[(ProcNo, Label)], peer: ProcNo) -> usize
+    ensures { (n : ℕ) → IsTable 0 n pairs.now → result ≡ place_of pairs.now peer }
+{
+    let mut rest: &[(ProcNo, Label)] = as_far_as(pairs, peer);
+    while let Some((pair, before)) = rest.split_last() {
+        if pair.0.get() < peer.get() {
+            return rest.len();
+        }
+        rest = before;
+    }
+    0
+}
+
 /// Whether the pair of a peer stands at a place.
 fn stands(pairs: &[(ProcNo, Label)], place: usize, peer: ProcNo) -> bool
     ensures { result ≡ stands_at pairs.now place peer }
@@ -85,6 +100,7 @@ fn label_in(pair: &(ProcNo, Label), peer: ProcNo) -> Label
 fn as_far_as(pairs: &[(ProcNo, Label)], peer: ProcNo) -> &[(ProcNo, Label)]
     ensures table { (n : ℕ) → IsTable 0 n pairs.now → IsTable 0 n result.now }
     ensures label { (n : ℕ) → IsTable 0 n pairs.now → find_label result.now peer ≡ find_label pairs.now peer }
+    ensures place { (n : ℕ) → IsTable 0 n pairs.now → place_of result.now peer ≡ place_of pairs.now peer }
 {
     &pairs[..pairs.len().min(peer.index() + 1)]
 }
@@ -243,7 +259,7 @@ impl PeerLabels {
         ensures peers { self.new.peers ≡ self.old.peers }
         ensures labels { label_of self.new ≡ at_peer peer label (label_of self.old) }
     {
-        let place = place(&self.pairs, peer);
+        let place = place_from_back(&self.pairs, peer);
         if stands(&self.pairs, place, peer) {
             self.pairs[place] = (peer, label);
         } else {
