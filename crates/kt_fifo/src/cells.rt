@@ -169,10 +169,12 @@ impl Cells {
         let ends = &mut self.ends[queue];
         if ends.len == 0 {
             ends.first = number;
-        } else {
-            let last = &mut self.cells[ends.last as usize];
-            last.next = number;
+            ends.last = number;
+            ends.len = 1;
+            return;
         }
+        let last = &mut self.cells[ends.last as usize];
+        last.next = number;
         ends.last = number;
         ends.len += 1;
     }

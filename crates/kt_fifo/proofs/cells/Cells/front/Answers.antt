@@ -1,13 +1,13 @@
-use Rattle.std.proofs.Common.{rules, ◌≡◌, ◌<◌, ◌≤◌, ◌+◌, ◌-◌, List, [], ◌∷◌, ◌++◌, length, drop, slice_get, IfOk, OnOk, OnErr, ℕ, ◌*◌, ◌/◌, ◌%◌, Bool, true, false, nat_eq, nat_lt, slice_index_or, slice_set, bit_and, bit_or, Fits, w8, w32, w64, Bor, MutBor}
-use Rattle.std.specs.Option.{option_copied}
-use Rattle.kt_fifo.specs.Queues.{has_parcel}
-use Rattle.kt_fifo.specs.Cells.{list, at_number, all_empty}
+use Rattle.kt_fifo.proofs.Celled.{in_ends, first_in, list_front}
 use Rattle.kt_fifo.proofs.cells.Cells.front.Goals as goal
 
--- src/cells.rt:111:15
 pub index-requires : goal.index-requires
-index-requires c = ?
+index-requires c =
+    let l = in_ends c.self.inside.cells.items c.self.inside.spare c.self.inside.ends.items _ c.args.queue c.self.view_is c.requires in
+    first_in _ _ _ _ c.self.invariant c.args.queue _ l c.index-ends.ensures c.if-ends-eq0.false
 
--- src/cells.rt:102:5
 pub returns : goal.returns
-returns c = ?
+returns c =
+    let l = in_ends c.self.inside.cells.items c.self.inside.spare c.self.inside.ends.items _ c.args.queue c.self.view_is c.requires in
+    let low = first_in _ _ _ _ c.self.invariant c.args.queue _ l c.index-ends.ensures c.if-ends-eq0.false in
+    rw (← c.self.view_is) (list_front c.self.inside.cells.items c.self.inside.spare _ c.args.queue _ l c.index-ends.ensures c.index.result.now c.if-ends-eq0.false low c.index.ensures)

@@ -1,9 +1,7 @@
-use Rattle.std.proofs.Common.{rules, ◌≡◌, ◌<◌, ◌≤◌, ◌+◌, ◌-◌, List, [], ◌∷◌, ◌++◌, length, drop, slice_get, IfOk, OnOk, OnErr, ℕ, ◌*◌, ◌/◌, ◌%◌, Bool, true, false, nat_eq, nat_lt, slice_index_or, slice_set, bit_and, bit_or, Fits, w8, w32, w64, Bor, MutBor}
-use Rattle.std.specs.Option.{option_copied}
-use Rattle.kt_fifo.specs.Queues.{has_parcel}
-use Rattle.kt_fifo.specs.Cells.{list, at_number, all_empty}
+use Rattle.kt_fifo.proofs.Celled.{in_ends, list_waits}
 use Rattle.kt_fifo.proofs.cells.Cells.has_parcel.Goals as goal
 
--- src/cells.rt:85:5
 pub returns : goal.returns
-returns c = ?
+returns c =
+    let l = in_ends c.self.inside.cells.items c.self.inside.spare c.self.inside.ends.items _ c.args.queue c.self.view_is c.requires in
+    rw (← c.self.view_is) (list_waits c.self.inside.cells.items c.self.inside.spare _ c.args.queue _ l c.index.ensures)

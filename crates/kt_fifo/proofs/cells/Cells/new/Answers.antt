@@ -1,13 +1,8 @@
-use Rattle.std.proofs.Common.{rules, ◌≡◌, ◌<◌, ◌≤◌, ◌+◌, ◌-◌, List, [], ◌∷◌, ◌++◌, length, drop, slice_get, IfOk, OnOk, OnErr, ℕ, ◌*◌, ◌/◌, ◌%◌, Bool, true, false, nat_eq, nat_lt, slice_index_or, slice_set, bit_and, bit_or, Fits, w8, w32, w64, Bor, MutBor}
-use Rattle.std.specs.Option.{option_copied}
-use Rattle.kt_fifo.specs.Queues.{has_parcel}
-use Rattle.kt_fifo.specs.Cells.{list, at_number, all_empty}
+use Rattle.kt_fifo.proofs.Celled.{linked_new, lists_new}
 use Rattle.kt_fifo.proofs.cells.Cells.new.Goals as goal
 
--- src/cells.rt:67:9
 pub invariant_of-result : goal.invariant_of-result
-invariant_of-result c = ?
+invariant_of-result c = linked_new _ _ c.args.queues c.new.ensures.items (c.in_ok-ends.ensures.items_if_clones_equal (λ y e. e))
 
--- src/cells.rt:56:5
 pub returns-clause-lists : goal.returns-clause-lists
-returns-clause-lists c = ?
+returns-clause-lists c = lists_new _ _ c.args.queues (c.in_ok-ends.ensures.items_if_clones_equal (λ y e. e))
