@@ -158,10 +158,14 @@ module _ (cells : List Cell) (free spare : ℕ) (ends : List Ends) (k : AreLinke
       held : AreLinked (length cells) taken
       held = linked_taken (suc q) before (length cells) k
 
+      linked_kept : AreLinked (length cells) after_pop
+      linked_kept = linked_front (length cells) e.first taken after_pop held loose is_front (first_in d)
+
       pub linked_pop : AreLinked (length (set cells e.first freed)) after_pop
-      linked_pop =
-          subst (λ (n : ℕ). AreLinked n after_pop) (sym (length-set cells e.first freed))
-          (linked_front (length cells) e.first taken after_pop held loose is_front (first_in d))
+      linked_pop = subst (λ (n : ℕ). AreLinked n after_pop) (sym (length-set cells e.first freed)) linked_kept
+
+      pub pop_few : spare + 1 ≤ length cells
+      pop_few = few_cells (length cells) after_pop linked_kept 0
 
       stays : (j i : ℕ) → i < taken.len (suc j) → parcel_in (set cells e.first freed) (cell_at after_pop (suc j) i) ≡ parcel_in cells (cell_at taken (suc j) i)
       stays j i m =
@@ -206,20 +210,20 @@ module _ (cells : List Cell) (free spare : ℕ) (ends : List Ends) (k : AreLinke
           ∙ length-first _ (e.len - 1)
 
     -- what the code writes where a parcel comes into the first free cell
-    pub record IsPushed (p : Parcel) (e2 : Ends) (cells2 : List Cell) : Type 0 where
-      pub size : length cells2 ≡ length cells
-      pub link : 0 < e.len → (get_or cells2 e.last no_cell).next ≡ free
-      pub others : (c : ℕ) → (0 < e.len → c ≢ e.last) → (get_or cells2 c no_cell).next ≡ (get_or cells c no_cell).next
-      pub parcel : parcel_in cells2 free ≡ p
-      pub parcels : (c : ℕ) → c ≢ free → parcel_in cells2 c ≡ parcel_in cells c
-      pub first : e.len ≡ 0 → e2.first ≡ free
-      pub kept : 0 < e.len → e2.first ≡ e.first
-      pub last : e2.last ≡ free
-      pub len : e2.len ≡ suc e.len
+    pub record IsPushed (p : Parcel) (longer : Ends) (written : List Cell) : Type 0 where
+      pub size : length written ≡ length cells
+      pub link : 0 < e.len → (get_or written e.last no_cell).next ≡ free
+      pub others : (c : ℕ) → (0 < e.len → c ≢ e.last) → (get_or written c no_cell).next ≡ (get_or cells c no_cell).next
+      pub parcel : parcel_in written free ≡ p
+      pub parcels : (c : ℕ) → c ≢ free → parcel_in written c ≡ parcel_in cells c
+      pub first : e.len ≡ 0 → longer.first ≡ free
+      pub kept : 0 < e.len → longer.first ≡ e.first
+      pub last : longer.last ≡ free
+      pub len : longer.len ≡ suc e.len
 
-    module _ (p : Parcel) (x : Cell) (e2 : Ends) (cells2 : List Cell) (some : 0 < spare) (read : x ≡ get_or cells free x) (h : IsPushed p e2 cells2) where
+    module _ (p : Parcel) (x : Cell) (longer : Ends) (written : List Cell) (some : 0 < spare) (read : x ≡ get_or cells free x) (h : IsPushed p longer written) where
       abbrev after_push : Chains
-      after_push = chains cells2 x.next (spare - 1) (set ends q e2)
+      after_push = chains written x.next (spare - 1) (set ends q longer)
 
       abbrev left : Chains
       left = without_first 0 before
@@ -236,11 +240,11 @@ module _ (cells : List Cell) (free spare : ℕ) (ends : List Ends) (k : AreLinke
       left_first : (j : ℕ) → left.first (suc j) ≡ before.first (suc j)
       left_first j = there 0 (before.next (before.first 0)) before.first (suc j) (suc_apart j)
 
-      came : (j : ℕ) → j ≡ q → get_or (set ends q e2) j no_ends ≡ e2
-      came j same = set_here (λ y. y) ends q e2 no_ends l j same
+      came : (j : ℕ) → j ≡ q → get_or (set ends q longer) j no_ends ≡ longer
+      came j same = set_here (λ y. y) ends q longer no_ends l j same
 
-      stayed : (j : ℕ) → j ≢ q → get_or (set ends q e2) j no_ends ≡ get_or ends j no_ends
-      stayed j n = set_there (λ y. y) ends q e2 no_ends j n
+      stayed : (j : ℕ) → j ≢ q → get_or (set ends q longer) j no_ends ≡ get_or ends j no_ends
+      stayed j n = set_there (λ y. y) ends q longer no_ends j n
 
       is_back : IsBack (suc q) free left after_push
       is_back =
@@ -250,14 +254,14 @@ module _ (cells : List Cell) (free spare : ℕ) (ends : List Ends) (k : AreLinke
           let new = came q refl in
           let was = cell_read cells free x (free_in some) read in
           record {
-            link = λ m. ap (λ (c : ℕ). (get_or cells2 c no_cell).next) same_last ∙ h.link (omega (arith, n, m));
+            link = λ m. ap (λ (c : ℕ). (get_or written c no_cell).next) same_last ∙ h.link (omega (arith, n, m));
             others = λ c apart. h.others c (λ m same. apart (omega (arith, n, m)) (same ∙ sym same_last));
             first = λ m. ap (λ (y : Ends). y.first) new ∙ h.first (omega (arith, n, m));
             kept = λ m. ap (λ (y : Ends). y.first) new ∙ (h.kept (omega (arith, n, m)) ∙ sym (left_first q ∙ ap (λ (y : Ends). y.first) is));
             firsts = back_firsts;
             last = ap (λ (y : Ends). y.last) new ∙ h.last;
             lasts = back_lasts;
-            len = let m : after_push.len (suc q) ≡ e2.len = ap (λ (y : Ends). y.len) new in let g = h.len in omega (arith, n, m, g);
+            len = let m : after_push.len (suc q) ≡ longer.len = ap (λ (y : Ends). y.len) new in let g = h.len in omega (arith, n, m, g);
             lens = back_lens;
           }
         where
@@ -282,63 +286,63 @@ module _ (cells : List Cell) (free spare : ℕ) (ends : List Ends) (k : AreLinke
       linked_same : AreLinked (length cells) after_push
       linked_same = linked_back (length cells) q free left after_push held_push loose_push is_back (free_in some)
 
-      pub linked_push : AreLinked (length cells2) after_push
+      pub linked_push : AreLinked (length written) after_push
       linked_push = subst (λ (n : ℕ). AreLinked n after_push) (sym h.size) linked_same
 
       -- no queue has more parcels than there are cells
       pub push_few : e.len + 1 < 2 ^ 32
       push_few =
           let most = few_cells (length cells) after_push linked_same (suc q) in
-          let new : after_push.len (suc q) ≡ e2.len = ap (λ (y : Ends). y.len) (came q refl) in
+          let new : after_push.len (suc q) ≡ longer.len = ap (λ (y : Ends). y.len) (came q refl) in
           let few = k.few in
           let more = h.len in
           omega (arith, most, new, few, more)
 
-      pushed_old : (j i : ℕ) → i < before.len (suc j) → cell_at after_push (suc j) i ≡ cell_at left (suc j) i → parcel_in cells2 (cell_at after_push (suc j) i) ≡ parcel_in cells (cell_at before (suc j) i)
+      pushed_old : (j i : ℕ) → i < before.len (suc j) → cell_at after_push (suc j) i ≡ cell_at left (suc j) i → parcel_in written (cell_at after_push (suc j) i) ≡ parcel_in cells (cell_at before (suc j) i)
       pushed_old j i m same =
           let b : i < left.len (suc j) = let n = left_len j in omega (arith, n, m) in
-          ap (parcel_in cells2) same
+          ap (parcel_in written) same
           ∙ (h.parcels (cell_at left (suc j) i) (loose_push.apart (suc j) i b)
           ∙ ap (parcel_in cells) (taken_there 0 before (suc j) i (suc_apart j)))
 
-      pushed_here : parcels_of cells2 e2 ≡ list (seen cells spare ends) q ++ p ∷ []
+      pushed_here : parcels_of written longer ≡ list (seen cells spare ends) q ++ p ∷ []
       pushed_here =
           let is = ends_read ends q e l r in
           let n : left.len (suc q) ≡ before.len (suc q) = left_len q in
           let new = came q refl in
-          let len : e2.len ≡ suc (before.len (suc q)) = h.len ∙ ap (λ (y : Ends). suc y.len) (sym is) in
-          let last : parcel_in cells2 (cell_at after_push (suc q) (before.len (suc q))) ≡ p =
-          ap (λ (i : ℕ). parcel_in cells2 (cell_at after_push (suc q) i)) (sym n)
-          ∙ (ap (parcel_in cells2) (back_new (length cells) q free left after_push held_push loose_push is_back) ∙ h.parcel) in
-          let old : first_of (λ i. parcel_in cells2 (cell_at after_push (suc q) i)) (before.len (suc q)) ≡ list (seen cells spare ends) q =
+          let len : longer.len ≡ suc (before.len (suc q)) = h.len ∙ ap (λ (y : Ends). suc y.len) (sym is) in
+          let last : parcel_in written (cell_at after_push (suc q) (before.len (suc q))) ≡ p =
+          ap (λ (i : ℕ). parcel_in written (cell_at after_push (suc q) i)) (sym n)
+          ∙ (ap (parcel_in written) (back_new (length cells) q free left after_push held_push loose_push is_back) ∙ h.parcel) in
+          let old : first_of (λ i. parcel_in written (cell_at after_push (suc q) i)) (before.len (suc q)) ≡ list (seen cells spare ends) q =
           same_first _ _ (before.len (suc q)) (λ i m. pushed_old q i m (back_here (length cells) q free left after_push held_push loose_push is_back i (omega (arith, n, m))))
           ∙ sym (list_is cells spare ends q) in
-          ap (parcels_of cells2) (sym new)
-          ∙ (ap (first_of (λ i. parcel_in cells2 (cell_at after_push (suc q) i))) (ap (λ (y : Ends). y.len) new ∙ len)
-          ∙ (first_more (λ i. parcel_in cells2 (cell_at after_push (suc q) i)) (before.len (suc q))
-          ∙ (ap (λ (t : List Parcel). t ++ parcel_in cells2 (cell_at after_push (suc q) (before.len (suc q))) ∷ []) old
+          ap (parcels_of written) (sym new)
+          ∙ (ap (first_of (λ i. parcel_in written (cell_at after_push (suc q) i))) (ap (λ (y : Ends). y.len) new ∙ len)
+          ∙ (first_more (λ i. parcel_in written (cell_at after_push (suc q) i)) (before.len (suc q))
+          ∙ (ap (λ (t : List Parcel). t ++ parcel_in written (cell_at after_push (suc q) (before.len (suc q))) ∷ []) old
           ∙ ap (λ (y : Parcel). list (seen cells spare ends) q ++ y ∷ []) last)))
 
-      pushed_there : (j : ℕ) → j ≢ q → parcels_of cells2 (get_or (set ends q e2) j no_ends) ≡ list (seen cells spare ends) j
+      pushed_there : (j : ℕ) → j ≢ q → parcels_of written (get_or (set ends q longer) j no_ends) ≡ list (seen cells spare ends) j
       pushed_there j d =
           let apart : suc j ≢ suc q = omega (arith, d) in
           let n : left.len (suc j) ≡ before.len (suc j) = left_len j in
-          ap (first_of (λ i. parcel_in cells2 (cell_at after_push (suc j) i))) (ap (λ (y : Ends). y.len) (stayed j d))
+          ap (first_of (λ i. parcel_in written (cell_at after_push (suc j) i))) (ap (λ (y : Ends). y.len) (stayed j d))
           ∙ (same_first _ _ (before.len (suc j)) (λ i m. pushed_old j i m (back_there (length cells) q free left after_push held_push loose_push is_back (suc j) i apart (omega (arith, n, m))))
           ∙ sym (list_is cells spare ends j))
 
-      pushed : (j : ℕ) → parcels_of cells2 (get_or (set ends q e2) j no_ends) ≡ at_number q (list (seen cells spare ends) q ++ p ∷ []) (list (seen cells spare ends)) j
+      pushed : (j : ℕ) → parcels_of written (get_or (set ends q longer) j no_ends) ≡ at_number q (list (seen cells spare ends) q ++ p ∷ []) (list (seen cells spare ends)) j
       pushed j = elim (cases_eq j q) [
         | inl same ↦
-            ap (parcels_of cells2) (came j same)
+            ap (parcels_of written) (came j same)
             ∙ (pushed_here
             ∙ (sym (here q (list (seen cells spare ends) q ++ p ∷ []) (list (seen cells spare ends)))
             ∙ ap (at_number q (list (seen cells spare ends) q ++ p ∷ []) (list (seen cells spare ends))) (sym same)))
         | inr d ↦ pushed_there j d ∙ sym (there q (list (seen cells spare ends) q ++ p ∷ []) (list (seen cells spare ends)) j d)
       ]
 
-      pub lists_push : list (seen cells2 (spare - 1) (set ends q e2)) ≡ at_number q (list (seen cells spare ends) q ++ p ∷ []) (list (seen cells spare ends))
-      lists_push = fun_ext (λ j. list_is cells2 (spare - 1) (set ends q e2) j ∙ pushed j)
+      pub lists_push : list (seen written (spare - 1) (set ends q longer)) ≡ at_number q (list (seen cells spare ends) q ++ p ∷ []) (list (seen cells spare ends))
+      lists_push = fun_ext (λ j. list_is written (spare - 1) (set ends q longer) j ∙ pushed j)
 
     -- a parcel comes into an empty queue
     pub pushed_first : (p : Parcel) (x : Cell) → 0 < spare → x ≡ get_or cells free x → e.len ≡ 0 →
@@ -414,11 +418,16 @@ module _ (cells : List Cell) (free spare : ℕ) (ends : List Ends) (k : AreLinke
     loose_add : IsLoose before (length cells)
     loose_add = loose_past (length cells) before k (length cells) (omega arith)
 
-    pub linked_add : AreLinked (length added) after_add
-    linked_add =
+    linked_wide : AreLinked (length added) after_add
+    linked_wide =
         let size = length_push cells (record { parcel = p; next = free }) in
         let wide = linked_more (length cells) (length cells + 1) before k (omega arith) more in
         subst (λ (n : ℕ). AreLinked n after_add) (sym size) (linked_front (length cells + 1) (length cells) before after_add wide loose_add is_added (omega arith))
+
+    pub linked_add : (new : List Cell) (c : ℕ) → new ≡ added → c ≡ length cells → AreLinked (length new) (chains new c (spare + 1) ends)
+    linked_add new c are is =
+        subst (λ (t : List Cell). AreLinked (length t) (chains t c (spare + 1) ends)) (sym are)
+        (subst (λ (n : ℕ). AreLinked (length added) (chains added n (spare + 1) ends)) (sym is) linked_wide)
 
     pub lists_add : list (seen added (spare + 1) ends) ≡ list (seen cells spare ends)
     lists_add = fun_ext (λ j. list_is added (spare + 1) ends j ∙ (same_first _ _ (before.len (suc j)) (kept j) ∙ sym (list_is cells spare ends j)))

@@ -1,16 +1,18 @@
 use Rattle.std.proofs.Common.{ap, arith, sym, ◌∙◌, ◌-◌, length}
 use Rattle.kt_fifo.specs.Cells.{QueueLists, list}
-use Rattle.kt_fifo.proofs.Celled.{in_ends, first_in, spare_few, list_len, list_front, linked_pop, lists_pop, shorter_pop}
+use Rattle.kt_fifo.proofs.Celled.{in_ends, first_in, pop_few, list_len, list_front, linked_pop, lists_pop, shorter_pop}
 use Rattle.kt_fifo.proofs.cells.Cells.pop.Goals as goal
 
 pub index_mut-cell-requires : goal.index_mut-cell-requires
 index_mut-cell-requires c =
     let l = in_ends c.self.inside.cells.items c.self.inside.spare c.self.inside.ends.items _ c.args.queue c.self.view_is c.requires in
-    first_in _ _ _ _ c.self.invariant c.args.queue _ l c.index_mut-ends.ensures.value c.if-ends-eq0.false
+    let low = first_in _ _ _ _ c.self.invariant c.args.queue _ l c.index_mut-ends.ensures.value c.if-ends-eq0.false in
+    omega (arith, low)
 
 pub overflow_add-self : goal.overflow_add-self
 overflow_add-self c =
-    let most = spare_few _ _ _ _ c.self.invariant in
+    let l = in_ends c.self.inside.cells.items c.self.inside.spare c.self.inside.ends.items _ c.args.queue c.self.view_is c.requires in
+    let most = pop_few _ _ _ _ c.self.invariant c.args.queue _ l c.index_mut-ends.ensures.value c.index_mut-cell.result.now c.if-ends-eq0.false c.index_mut-cell.ensures.value in
     let few = c.self.invariant.few in
     omega (arith, most, few)
 
