@@ -1,7 +1,7 @@
 -- The chains in a list of cells, as a parcel comes and goes.
 use Rattle.std.specs.Prelude.{nat_eq, if◌then◌else◌, map, drop, slice_get}
 use Rattle.std.specs.declared.option.Option.{Option}
-use Rattle.std.proofs.Common.{◌≡◌, ◌≢◌, ℕ, zero, suc, ◌+◌, ◌-◌, ◌^◌, ◌≤◌, ◌<◌, Bool, true, false, List, [], ◌∷◌, ◌++◌, length, get_or, set, replicate, Some, refl, arith, sym, ap, subst, ◌∙◌, inl, inr}
+use Rattle.std.proofs.Common.{◌≡◌, ◌≢◌, ℕ, zero, suc, ◌+◌, ◌-◌, ◌^◌, ◌≤◌, ◌<◌, Bool, true, false, List, [], ◌∷◌, ◌++◌, length, get_or, set, replicate, Some, None, refl, arith, sym, ap, subst, ◌∙◌, inl, inr, add-one}
 use Rattle.std.proofs.Math.Path.{fun_ext}
 use Rattle.std.proofs.Math.ListN.{get_or-map}
 use Rattle.std.proofs.lemmas.List.{length-map, length-set, length_push, get_or-set_same, get_or-set_other, get_or_default, get_or_past, get_or_push, get_or_append_left, get_or-replicate, length-replicate}
@@ -37,6 +37,16 @@ in_ends cells spare ends w q e l =
 front_of : (f : ℕ → Parcel) (n : ℕ) → n ≢ 0 → slice_get (first_of f n) 0 ≡ Some (f 0)
 front_of f zero d = absurd (d refl)
 front_of f (suc n) d = refl
+
+got_of : (f : ℕ → Parcel) (n i : ℕ) → i < n → slice_get (first_of f n) i ≡ Some (f i)
+got_of f zero i l = absurd (omega (arith, l))
+got_of f (suc n) zero l = refl
+got_of f (suc n) (suc i) l = got_of (λ j. f (suc j)) n i (omega (arith, l))
+
+none_of : (f : ℕ → Parcel) (n i : ℕ) → n ≤ i → slice_get (first_of f n) i ≡ None
+none_of f zero i l = refl
+none_of f (suc n) zero l = absurd (omega (arith, l))
+none_of f (suc n) (suc i) l = none_of (λ j. f (suc j)) n i (omega (arith, l))
 
 waits_of : (f : ℕ → Parcel) (n : ℕ) → mathlib.Core.Bool.not (nat_eq n 0) ≡ has_parcel (first_of f n)
 waits_of f zero = refl
@@ -114,6 +124,38 @@ module _ (cells : List Cell) (free spare : ℕ) (ends : List Ends) (k : AreLinke
         let low = k.within (suc q) (e.len - 1) (omega (arith, n, d)) in
         let same : before.last (suc q) ≡ e.last = ap (λ (x : Ends). x.last) is in
         omega (arith, low, at, same)
+
+    -- a walk from the first cell
+    pub walk_start : e.first ≡ cell_at before (suc q) 0
+    walk_start = sym (ap (λ (y : Ends). y.first) (ends_read ends q e l r))
+
+    walk_len : before.len (suc q) ≡ e.len
+    walk_len = ap (λ (y : Ends). y.len) (ends_read ends q e l r)
+
+    pub walk_in : (n i : ℕ) → n ≡ cell_at before (suc q) i → i < e.len → n < length cells
+    walk_in n i is m =
+        let len = walk_len in
+        let low = k.within (suc q) i (omega (arith, len, m)) in
+        omega (arith, low, is)
+
+    pub walk_step : (n i : ℕ) (x : Cell) → n ≡ cell_at before (suc q) i → i < e.len → x ≡ get_or cells n x → x.next ≡ cell_at before (suc q) (i + 1)
+    walk_step n i x is m read =
+        let was = cell_read cells n x (walk_in n i is m) read in
+        rw (add-one) (sym (ap (λ (y : Cell). y.next) was) ∙ ap before.next is)
+
+    pub walk_found : (n i : ℕ) (x : Cell) → n ≡ cell_at before (suc q) i → i < e.len → x ≡ get_or cells n x →
+        ◌≡◌ {A = Option Parcel} (Some x.parcel) (slice_get (list (seen cells spare ends) q) i)
+    walk_found n i x is m read =
+        let len = walk_len in
+        let was = cell_read cells n x (walk_in n i is m) read in
+        sym (ap (λ (p : List Parcel). slice_get p i) (list_is cells spare ends q)
+        ∙ (got_of (λ j. parcel_in cells (cell_at before (suc q) j)) (before.len (suc q)) i (omega (arith, len, m))
+        ∙ ap (λ (y : Cell). Some y.parcel) (ap (λ (c : ℕ). get_or cells c no_cell) (sym is) ∙ was)))
+
+    pub walk_past : (i : ℕ) → e.len ≤ i → ◌≡◌ {A = Option Parcel} None (slice_get (list (seen cells spare ends) q) i)
+    walk_past i m = let len = walk_len in
+        sym (ap (λ (p : List Parcel). slice_get p i) (list_is cells spare ends q)
+        ∙ none_of (λ j. parcel_in cells (cell_at before (suc q) j)) (before.len (suc q)) i (omega (arith, len, m)))
 
     -- the first cell of the queue goes to the front of the free ones
     module _ (x : Cell) (d : e.len ≢ 0) (read : x ≡ get_or cells e.first x) where

@@ -111,6 +111,22 @@ impl Cells {
         Some(&self.cells[ends.first as usize].parcel)
     }
 
+    /// The parcel at a place of a queue, the oldest at 0; it passes all before it.
+    pub fn get(&self, queue: usize, place: usize) -> Option<&Parcel>
+        requires { queue < length self.now.queues }
+        ensures { option_copied result ≡ slice_get (list self.now queue) place }
+    {
+        let ends = self.ends[queue];
+        if place >= ends.len as usize {
+            return None;
+        }
+        let mut number = ends.first;
+        for _passed in 0..place {
+            number = self.cells[number as usize].next;
+        }
+        Some(&self.cells[number as usize].parcel)
+    }
+
     /// Makes room for that many parcels more.
     #[inline(always)]
     pub fn reserve(&mut self, count: usize) -> Result<(), Memory>
