@@ -1,6 +1,6 @@
 //! Channels: one first-in first-out list of parcels for each ordered pair of processes.
 //!
-//! **What to change where:** calls `channels.rt`; one list `fifo.rt`; lists in one vector
+//! **What to change where:** calls `channels.rt`; lists in one vector
 //! `cells.rt`; parcels `parcels.rt`; a number by process
 //! `counts.rt`, what is counted `specs/Counts`.
 #![tactic(auto)]
@@ -8,7 +8,6 @@
 mod cells;
 mod channels;
 mod counts;
-mod fifo;
 mod parcels;
 
 pub use cells::Cells;
