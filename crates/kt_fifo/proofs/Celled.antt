@@ -1,7 +1,7 @@
 -- The chains in a list of cells, as a parcel comes and goes.
-use Rattle.std.specs.Prelude.{nat_eq, if◌then◌else◌, map, drop, slice_get}
+use Rattle.std.specs.Prelude.{nat_eq, drop, slice_get}
 use Rattle.std.specs.declared.option.Option.{Option}
-use Rattle.std.proofs.Common.{◌≡◌, ◌≢◌, ℕ, zero, suc, ◌+◌, ◌-◌, ◌^◌, ◌≤◌, ◌<◌, Bool, true, false, List, [], ◌∷◌, ◌++◌, length, get_or, set, replicate, Some, None, refl, arith, sym, ap, subst, ◌∙◌, inl, inr, add-one}
+use Rattle.std.proofs.Common.{◌≡◌, ◌≢◌, ℕ, zero, suc, ◌+◌, ◌-◌, ◌^◌, ◌≤◌, ◌<◌, List, [], ◌∷◌, ◌++◌, length, get_or, set, replicate, Some, None, refl, arith, sym, ap, subst, ◌∙◌, inl, inr, add-one}
 use Rattle.std.proofs.Math.Path.{fun_ext}
 use Rattle.std.proofs.Math.ListN.{get_or-map}
 use Rattle.std.proofs.lemmas.List.{length-map, length-set, length_push, get_or-set_same, get_or-set_other, get_or_default, get_or_past, get_or_push, get_or_append_left, get_or-replicate, length-replicate}
@@ -11,7 +11,7 @@ use Rattle.kt_fifo.specs.declared.parcels.Parcel.{Parcel}
 use Rattle.kt_fifo.specs.declared.cells.Cell.{Cell}
 use Rattle.kt_fifo.specs.declared.cells.Ends.{Ends}
 use Rattle.kt_fifo.specs.Queues.{has_parcel}
-use Rattle.kt_fifo.specs.Cells.{QueueLists, list, at_number, all_empty, Chains, cell_at, first_of, AreLinked, no_cell, no_ends, ends_of, chains, parcels_of, queues_of}
+use Rattle.kt_fifo.specs.Cells.{QueueLists, list, at_number, all_empty, Chains, cell_at, first_of, AreLinked, no_cell, no_ends, chains, parcels_of, queues_of}
 use Rattle.kt_fifo.proofs.Rows.{same_first, first_more, length-first}
 use Rattle.kt_fifo.proofs.Chaining.{here, there, IsLoose, without_first, taken_here, taken_there, linked_taken, loose_taken, few_cells, linked_more, loose_past, IsFront, front_there, linked_front, IsBack, back_here, back_there, back_new, linked_back}
 

@@ -1,11 +1,10 @@
 -- What a write at one pair's place changes.
 use Rattle.std.specs.Prelude.{nat_eq, nat_lt, ◌&&◌, if◌then◌else◌, slice_index}
-use Rattle.std.proofs.Common.{◌≡◌, ◌≢◌, ℕ, ◌+◌, ◌-◌, ◌*◌, ◌≤◌, ◌<◌, Bool, true, false, List, [], ◌∷◌, ◌++◌, length, drop, set, get_or, refl, arith, sym, ap, subst, ◌∙◌, inl, inr}
+use Rattle.std.proofs.Common.{◌≡◌, ◌≢◌, ℕ, ◌+◌, ◌-◌, ◌*◌, ◌≤◌, ◌<◌, true, false, List, [], ◌∷◌, ◌++◌, length, drop, set, get_or, refl, arith, sym, ap, subst, ◌∙◌, inl, inr}
 use Rattle.std.proofs.Math.Path.{fun_ext}
 use Rattle.std.proofs.lemmas.List.{length-set, get_or-set_same, get_or-set_other, get_or_default, set-get_or}
 use Rattle.std.proofs.lemmas.Bool.Decides.{nat_tests}
 use Rattle.std.proofs.lemmas.Bool.{cases_lt, cases_eq}
-use Rattle.std.proofs.lemmas.Grind.{get_or-set_at}
 use Rattle.kt_base.specs.Sets.{has, count_of}
 use Rattle.kt_fifo.specs.declared.parcels.Parcel.{Parcel}
 use Rattle.kt_fifo.specs.Queues.{has_parcel}
@@ -55,7 +54,7 @@ list_set n from to f g l a b e p q =
 pub channel_written : (w v : ChannelLists) (from to i : ℕ) (l : List Parcel) → IsPlace w from to i → IsWritten w v i l → channel v ≡ at_pair from to l (channel w)
 channel_written w v from to i l h e =
     let lists : (j : ℕ) → get_or v.queues j [] ≡ at_number (from * w.processes + to) l (λ j. get_or w.queues j []) j = λ j. e.lists j ∙ ap (λ (k : ℕ). at_number k l (λ j. get_or w.queues j []) j) h.place in
-    ap (λ (n : ℕ) (p q : ℕ). if nat_lt p n && nat_lt q n then get_or v.queues (p * n + q) [] else []) e.processes
+    ap {B = ℕ → ℕ → List Parcel} (λ n p q. if nat_lt p n && nat_lt q n then get_or v.queues (p * n + q) [] else []) e.processes
     ∙ fun_ext (λ p. fun_ext (λ q. list_set w.processes from to (λ j. get_or w.queues j []) (λ j. get_or v.queues j []) l h.from_in h.to_in lists p q))
 
 -- the list that was read
@@ -204,7 +203,7 @@ channel_here w v from to i l h u = ap (λ (f : ℕ → ℕ → List Parcel). f f
 -- room for more changes no list
 pub channel_kept : (w v : ChannelLists) → v.processes ≡ w.processes → ((j : ℕ) → get_or v.queues j [] ≡ get_or w.queues j []) → channel v ≡ channel w
 channel_kept w v n same =
-    ap (λ (m : ℕ) (p q : ℕ). if nat_lt p m && nat_lt q m then get_or v.queues (p * m + q) [] else []) n
+    ap {B = ℕ → ℕ → List Parcel} (λ m p q. if nat_lt p m && nat_lt q m then get_or v.queues (p * m + q) [] else []) n
     ∙ fun_ext (λ p. fun_ext (λ q. ap (λ (t : List Parcel). if nat_lt p w.processes && nat_lt q w.processes then t else []) (same (p * w.processes + q))))
 
 pub wired_kept : (w v : ChannelLists) (senders counts : List ℕ) (receivers : ℕ) → IsWired w senders counts receivers → v.processes ≡ w.processes → length v.queues ≡ length w.queues → channel v ≡ channel w → IsWired v senders counts receivers

@@ -1,8 +1,7 @@
 //! Channels: one first-in first-out list of parcels for each ordered pair of processes.
 //!
-//! **What to change where:** calls `channels.rt`; lists in one vector
-//! `cells.rt`; parcels `parcels.rt`; a number by process
-//! `counts.rt`, what is counted `specs/Counts`.
+//! **What to change where:** calls `channels.rt`; numbered lists whose cells stand in one vector
+//! `cells.rt`; parcels `parcels.rt`; a number by process `counts.rt`, what is counted `specs/Counts`.
 #![tactic(auto)]
 
 mod cells;

@@ -1,6 +1,6 @@
-use Rattle.std.proofs.Common.{◌≡◌, ◌<◌, ◌≤◌, ◌+◌, ◌^◌, ℕ, List, length, arith, sym, ap, subst, ◌∙◌}
+use Rattle.std.proofs.Common.{◌≡◌, ◌<◌, ◌+◌, ◌^◌, List, length, arith, sym, ap, ◌∙◌}
 use Rattle.kt_fifo.specs.declared.cells.Cell.{Cell}
-use Rattle.kt_fifo.specs.Cells.{list, AreLinked, chains}
+use Rattle.kt_fifo.specs.Cells.{list}
 use Rattle.kt_fifo.proofs.Celled.{seen, spare_few, linked_add, lists_add}
 use Rattle.kt_fifo.proofs.cells.Cells.grow.Goals as goal
 

@@ -1,4 +1,4 @@
-use Rattle.std.proofs.Common.{◌≡◌, ◌≤◌, ◌+◌, length}
+use Rattle.std.proofs.Common.{◌≡◌, ◌+◌, length}
 use Rattle.std.specs.Vec.{vec_len, vec_capacity}
 use Rattle.kt_fifo.specs.Cells.{list, AreLinked, chains}
 use Rattle.kt_fifo.proofs.Celled.{seen}

@@ -1,4 +1,4 @@
-use Rattle.std.proofs.Common.{ap, arith, sym, ◌∙◌, ◌-◌, length}
+use Rattle.std.proofs.Common.{ap, arith, sym, ◌∙◌, length}
 use Rattle.kt_fifo.specs.Cells.{QueueLists, list}
 use Rattle.kt_fifo.proofs.Celled.{in_ends, first_in, pop_few, list_len, list_front, linked_pop, lists_pop, shorter_pop}
 use Rattle.kt_fifo.proofs.cells.Cells.pop.Goals as goal

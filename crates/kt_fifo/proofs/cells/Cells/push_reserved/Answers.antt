@@ -1,4 +1,4 @@
-use Rattle.std.proofs.Common.{ap, subst, arith, sym, ◌<◌}
+use Rattle.std.proofs.Common.{subst, arith, sym, ◌<◌}
 use Rattle.kt_fifo.specs.Cells.{QueueLists}
 use Rattle.kt_fifo.proofs.Celled.{in_ends, free_in, last_in, linked_push, push_few, lists_push, pushed_first, pushed_behind}
 use Rattle.kt_fifo.proofs.cells.Cells.push_reserved.Goals as goal

@@ -1,6 +1,4 @@
-use Rattle.std.specs.Prelude.{slice_get}
-use Rattle.std.proofs.Common.{List, length, sym, ap, ◌∙◌}
-use Rattle.kt_fifo.specs.declared.parcels.Parcel.{Parcel}
+use Rattle.std.proofs.Common.{length, sym, ap, ◌∙◌}
 use Rattle.kt_fifo.specs.Channels.{ChannelLists}
 use Rattle.kt_fifo.proofs.Wiring.{place_of, channel_read}
 use Rattle.kt_fifo.proofs.channels.Channels.len.Goals as goal
