@@ -12,8 +12,8 @@ use Rattle.kt_manager.proofs.manager.Manager.take_held.Goals as goal
 pub returns-then-not-is_up : goal.returns-then-not-is_up
 returns-then-not-is_up c = record { done = λ y h speaks.
     let from = c.args.from in
-    let label = c.in-Some.label in
-    let body = c.in-Some.body in
+    let label = c.in-Some.first.0 in
+    let body = c.in-Some.first.1 in
     let rest = drop 1 (y.held from) in
     let z : NodeState = record y { held = at_one from rest y.held } in
     let i = shows_inside _ _ y c.self.view_is h in
@@ -25,8 +25,8 @@ returns-then-not-is_up c = record { done = λ y h speaks.
 pub returns : goal.returns
 returns c = record { done = λ y h speaks.
     let from = c.args.from in
-    let label = c.in-Some.label in
-    let body = c.in-Some.body in
+    let label = c.in-Some.first.0 in
+    let body = c.in-Some.first.1 in
     let rest = drop 1 (y.held from) in
     let z : NodeState = record y { held = at_one from rest y.held } in
     let i = shows_inside _ _ y c.self.view_is h in
@@ -37,4 +37,4 @@ returns c = record { done = λ y h speaks.
     done_first _ _ y from (App label body ∷ rest) first
     (done_up _ _ z (receiving z from label body) (dropping z from label) up
     (done_as _ _ (λ (b : ℤ). receiving z from label b) _ _ (to_z-of_z w64 body (search rules))
-    (c.reception.ensures _ z (shows_taken _ c.receive.new.self c.keep_held.new.self y from label _ rest c.receive.ensures.processes i ? refl c.keep_held.ensures.kept c.keep_held.ensures.held notes calls)))) }
+    (c.reception.ensures _ z (shows_taken _ c.receive.new.self c.keep_held.new.self y from label _ rest c.receive.ensures.processes i (rw (to_z-of_z w64 c.in-Some.first.1 (search rules)) first) refl c.keep_held.ensures.kept c.keep_held.ensures.held notes calls)))) }

@@ -36,7 +36,7 @@ returns-then-not-is_up-clause-done c = λ y h speaks.
     let body = c.args.body in
     let down = sym i.process.up ∙ (sym c.is_up.ensures ∙ c.if-not-is_up.true) in
     done_arriving _ _ y from label body (sym (c.is_in_rollback.ensures.node y h) ∙ c.if-is_in_rollback.false)
-    (done_down _ _ y (receiving y from label body) (dropping y from label) down (c.told.ensures _ y i))
+    (done_down _ _ y (receiving y from label body) (dropping y from label) down (c.told.ensures c.args.self.now y h))
 
 pub returns-clause-done : goal.returns-clause-done
 returns-clause-done c = λ y h speaks.
