@@ -1,20 +1,18 @@
 -- Messages received, held and taken, as the node's rules have it.
-use Rattle.std.specs.Prelude.{◌==◌, ◌&&◌, ◌||◌, if◌then◌else◌, Option, Some, None, map}
+use Rattle.std.specs.Prelude.{◌==◌, if◌then◌else◌, Some, None, map}
 use Rattle.kt_base.specs.declared.words.Verb.TheVariants as verb
-use Rattle.std.proofs.Common.{◌≡◌, ◌∙◌, ℕ, ℤ, ◌+◌, Bool, true, false, List, [], ◌∷◌, ◌++◌, take, drop, refl, sym, ap, ap₂, subst}
+use Rattle.std.proofs.Common.{◌≡◌, ◌∙◌, ℕ, ℤ, ◌+◌, Bool, true, false, List, [], ◌∷◌, ◌++◌, take, drop, refl, sym, ap, subst}
 use Rattle.kt_meaning.specs.Past.{at_one}
 use Rattle.kt_plan.specs.declared.steps.Act.TheVariants as answered
 use Rattle.kt_tables.specs.Calls.{sent, received, Speaks}
 use Rattle.kt_machine.specs.Seen.{SeenProcess}
 use Rattle.kt_process.specs.ProcessStates.{ProcessState}
 use Rattle.kt_process.specs.Shown.{IsSeenAs}
-use Rattle.kt_spacetime.specs.declared.names.InstName.{InstName}
 use Rattle.kt_spacetime.specs.declared.named_rows.NamedCause.TheVariants.{Down}
 use Rattle.kt_spacetime.specs.declared.named_rows.NamedEvent.TheVariants.{Sent, Dropped}
 use Rattle.kt_manager.specs.declared.parcels.NodeParcel.{NodeParcel}
 use Rattle.kt_manager.specs.declared.parcels.NodeParcel.TheVariants as put
 use Rattle.kt_manager.specs.declared.received.Item.{Item}
-use Rattle.kt_manager.specs.Messages.{has_some}
 use Rattle.kt_manager.specs.Inboxes.{InboxLists, kept_of, held_of}
 use Rattle.kt_manager.specs.Nodes.{NodeLists, NodeState, Doing, nothing, with_one, is_in_rollback}
 use Rattle.kt_manager.specs.NodeMessages.{sending, receiving, arriving, holding, taking_held, refusing}

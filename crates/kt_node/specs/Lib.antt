@@ -8,6 +8,7 @@ pub mod Numbered
 pub mod NodeLooks
 pub mod NodeHistories
 pub mod Managers
+pub mod Begins
 pub mod ManagerParts
 pub mod OwnParts
 pub mod Effects

@@ -20,7 +20,6 @@
 #![tactic(auto)]
 
 mod cluster;
-mod effects;
 mod faults;
 mod histories;
 mod inputs;
@@ -28,12 +27,10 @@ mod laws;
 mod manager;
 mod meeting;
 mod node;
-mod parcels;
 mod reach;
 mod worked;
 
 pub use cluster::{Cluster, ClusterFault, ClusterStep};
-pub use effects::{Effects, Parcels};
 pub use faults::ManagerFault;
 pub use histories::histories_of_nets;
 pub use inputs::Input;
@@ -42,8 +39,8 @@ pub use laws::{
     meetings_of_parcels, merges_of_nets, nets_are_runs, nodes_of_numbered_nets,
     numbered_nets_are_nets, order_of_nets, own_parts, permanent_checkpoints,
 };
+pub use kt_manager::{Effects, NodeParcel, Parcels};
 pub use manager::{Manager, ManagerParts};
 pub use node::{Envelope, Node, NodeFault, Output, Taken};
-pub use parcels::NodeParcel;
 pub use reach::{Reach, Reaches};
 pub use worked::worked_nets;

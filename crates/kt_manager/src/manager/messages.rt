@@ -80,12 +80,7 @@ impl Manager {
     }
 
     /// A message comes. It holds it where it is in a rollback, and else it takes it, where it holds none before it.
-    pub fn take_message(
-        &mut self,
-        from: ProcNo,
-        label: Count,
-        body: i64,
-    ) -> Result<Effects, Memory>
+    pub fn take_message(&mut self, from: ProcNo, label: Count, body: i64) -> Result<Effects, Memory>
         requires from { from < size_of self.old }
         requires first { is_rolling self.old ≡ false →
             has_some (held_of self.old.inbox from) ≡ false }

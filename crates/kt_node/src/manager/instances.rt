@@ -1,11 +1,12 @@
 //! Instances begun, joined and closed.
 
-ghost use Rattle.std.specs.Prelude.{◌≡◌, ◌<◌, IfOk, OnErr};
+ghost use Rattle.std.specs.Prelude.{◌≡◌, ◌<◌, true, Some, Bool, IfOk, OnErr};
 ghost use Rattle.kt_meaning.specs.Past.{is_rollback_kind};
 ghost use Rattle.kt_manager.specs.Nodes.{NodeState, Begin};
-ghost use Rattle.kt_manager.specs.NodeSteps.{node_after, taking, awaits, heeds};
+ghost use Rattle.kt_manager.specs.NodeSteps.{is_in, node_after, taking, awaits, heeds};
+ghost use Rattle.kt_manager.specs.Managers.{awaited_by};
 ghost use Rattle.kt_manager.specs.declared.parcels.NodeParcel.TheVariants as put;
-ghost use Rattle.kt_node.specs.Managers.{ShowsNode, IsSameManager};
+ghost use Rattle.kt_node.specs.Managers.{ShowsNode, IsSameManager, core_of};
 ghost use Rattle.kt_node.specs.Effects.{IsDone};
 ghost use Rattle.kt_node.specs.Faults.{fault_at, IsRefusedAs};
 ghost use Rattle.kt_node.specs.Begins.{begins};

@@ -1,6 +1,6 @@
 //! Application messages, and failures.
 
-ghost use Rattle.std.specs.Prelude.{◌≡◌, ◌<◌, true, false, Bool, IfOk, OnOk, OnErr, IsErrOf};
+ghost use Rattle.std.specs.Prelude.{◌≡◌, ◌<◌, if◌then◌else◌, true, false, Bool, Some, None, IfOk, OnOk, OnErr, IsErrOf};
 ghost use Rattle.kt_tables.specs.Calls.{Speaks};
 ghost use Rattle.kt_manager.specs.Messages.{has_some};
 ghost use Rattle.kt_manager.specs.Inboxes.{held_of};
@@ -11,7 +11,7 @@ ghost use Rattle.kt_manager.specs.declared.parcels.NodeParcel.TheVariants as sen
 ghost use Rattle.kt_node.specs.declared.faults.ManagerFault.TheVariants as fault;
 ghost use Rattle.kt_node.specs.Managers.{ShowsNode, IsSameManager, core_of};
 ghost use Rattle.kt_node.specs.Effects.{IsDone};
-ghost use Rattle.kt_node.specs.Faults.{fault_at, wants_room, wants_memory, IsRefusedAs};
+ghost use Rattle.kt_node.specs.Faults.{fault_at, first_held, wants_room, wants_memory, IsRefusedAs};
 
 use super::Manager;
 use crate::faults::ManagerFault;
@@ -62,10 +62,22 @@ impl Manager {
         ensures err { OnErr result (IsSameManager self.new self.old) }
     {
         self.meet(from)?;
-        if self.is_in_rollback() || !self.holds(from) {
+        if self.is_in_rollback() || !self.holds_first(from) {
             return Err(ManagerFault::HoldsNone);
         }
         Ok(self.core.take_held(from))
+    }
+
+    /// Whether the first message that it holds of a process has a label.
+    pub(super) fn holds_first(&self, from: ProcNo) -> bool
+        requires { from < self.now.size }
+        ensures { (y : NodeState) → ShowsNode self.now y →
+            first_held (y.held from) ≡ (if result then None else Some fault.HoldsNone) }
+    {
+        match self.core.first_held(from) {
+            Some(first) => first.0.get() > 0,
+            None => false,
+        }
     }
 
     /// A message comes: it holds it where it is in a rollback.

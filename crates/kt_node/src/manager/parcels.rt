@@ -10,10 +10,10 @@ ghost use Rattle.kt_node.specs.Faults.{fault_at, wants_memory, IsRefusedAs};
 ghost use Rattle.kt_node.specs.declared.faults.ManagerFault.TheVariants as fault;
 
 use super::Manager;
-use super::instances::Ask;
-use crate::effects::Effects;
+use kt_manager::Ask;
+use kt_manager::Effects;
 use crate::faults::ManagerFault;
-use crate::parcels::NodeParcel;
+use kt_manager::NodeParcel;
 use kt_base::ProcNo;
 use std::alloc::Global;
 
@@ -47,8 +47,8 @@ impl Manager {
             NodeParcel::Ask { inst, kind, label } => {
                 Ok(self.take_ask(alloc, from, &Ask { inst, kind, label }, able)?)
             }
-            NodeParcel::Reply { inst, willing } => Ok(self.take_reply(from, &inst, willing)?),
-            NodeParcel::Decide { inst, commit } => Ok(self.take_decision(from, &inst, commit)?),
+            NodeParcel::Reply { inst, willing } => Ok(self.take_reply(from, &inst, willing)),
+            NodeParcel::Decide { inst, commit } => Ok(self.take_decision(from, &inst, commit)),
         }
     }
 }

@@ -1,16 +1,15 @@
-use Rattle.std.proofs.Common.{◌∙◌, ◌+◌, [], ◌∷◌, sym, ap, ap₂, subst}
+use Rattle.std.proofs.Common.{◌∙◌, ◌+◌, [], ◌∷◌, ap, ap₂, subst}
 use Rattle.std.specs.Prelude.{Option, None}
 use Rattle.kt_base.specs.declared.words.Verb.{Verb}
 use Rattle.kt_process.specs.declared.actions.Action.{Action}
 use Rattle.kt_machine.specs.SeenJoining.{no_note}
-use Rattle.kt_process.specs.Shown.{BeginsAs, IsProcessJoined}
+use Rattle.kt_process.specs.Shown.{BeginsAs}
 use Rattle.kt_spacetime.specs.declared.names.InstName.{InstName}
 use Rattle.kt_spacetime.specs.declared.named_rows.NamedCause.{NamedCause}
 use Rattle.kt_spacetime.specs.declared.named_rows.NamedEvent.TheVariants.{Began}
 use Rattle.kt_manager.specs.Nodes.{Doing}
 use Rattle.kt_manager.specs.NodeMessages.{refusing}
 use Rattle.kt_manager.specs.Effects.{IsDone}
-use Rattle.kt_manager.specs.Managers.{ManagerState, HoldsFor}
 use Rattle.kt_manager.specs.Managers.{process_of}
 use Rattle.kt_manager.specs.Turns.{able_in, marks_in, named_cause}
 use Rattle.kt_manager.proofs.Beginning.{go_joined, joined_begun, holds_begun, refuses, begins}

@@ -1,7 +1,6 @@
 use Rattle.std.proofs.Common.{◌∙◌, ℤ, ap, sym}
 use Rattle.std.specs.Int.{w64}
 use Rattle.std.proofs.lemmas.Int.{to_z-of_z}
-use Rattle.kt_manager.specs.declared.received.Item.{Item}
 use Rattle.kt_manager.specs.declared.parcels.NodeParcel.TheVariants.{App}
 use Rattle.kt_manager.specs.Messages.{has_some}
 use Rattle.kt_manager.specs.Inboxes.{held_of}
