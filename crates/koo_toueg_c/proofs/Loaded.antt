@@ -26,7 +26,7 @@ use Rattle.kt_process.specs.declared.side.Side.TheVariants as side
 use Rattle.kt_node.specs.Erasing.{erased_parcel}
 use Rattle.kt_node.specs.Managers.{no_name}
 use Rattle.kt_manager.specs.Nodes.{NodeLists}
-use Rattle.kt_node.specs.OwnParts.{HasOwnMarks}
+use Rattle.kt_manager.specs.OwnParts.{HasOwnMarks}
 use Rattle.kt_node.proofs.OwnMarks.{marks_after, own_shown}
 use Rattle.kt_node_text.specs.Form.{text_of}
 use Rattle.kt_node_text.specs.Sameness.{IsOwn, IsSameState}

@@ -7,7 +7,6 @@ use Rattle.kt_base.specs.Sets.{has}
 use Rattle.kt_base.specs.declared.words.Verb.TheVariants as verb
 use Rattle.kt_meaning.specs.Past.{at_one}
 use Rattle.kt_protocol.proofs.Updates.{at_one_here, at_one_other}
-use Rattle.kt_process.specs.ProcessStates.{ProcessState}
 use Rattle.kt_machine.specs.CallTests.{must_take, must_roll}
 use Rattle.kt_machine.specs.SeenJoining.{no_note}
 use Rattle.kt_spacetime.specs.declared.names.InstName.{InstName}
@@ -22,23 +21,13 @@ use Rattle.kt_manager.specs.NodeJoining.{beginning, joining_checkpoint, joining_
 use Rattle.kt_manager.specs.NodeClosing.{after_checkpoint, after_rollback, closing, ending, settling}
 use Rattle.kt_manager.specs.NodeSteps.{is_one, starting, told_to_begin, asked, counting}
 use Rattle.kt_manager.specs.Turns.{told_to_send, told_to_fail, taking_message}
-use Rattle.kt_manager.specs.Managers.{ShowsManager, size_of, ManagerState as CoreState, IsSameManager as IsSameCore}
+use Rattle.kt_manager.specs.Managers.{ShowsManager, ManagerState as CoreState, IsSameManager as IsSameCore}
 use Rattle.kt_manager.specs.Effects.{IsDone as IsCoreDone}
-use Rattle.kt_node.specs.Begins.{begins}
-use Rattle.kt_node.specs.Managers.{ManagerState, ShowsNode, IsSameManager, core_of}
+use Rattle.kt_node.specs.Begins.{begins, begun_guards, joined_guards}
+use Rattle.kt_node.specs.Managers.{ManagerState, HasGuards, ShowsNode, IsSameManager, core_of}
 use Rattle.kt_node.specs.Effects.{IsDone}
 
--- the manager around this one
-abbrev pub around : CoreState → ℕ → List (Option InstName) → ℕ → ManagerState
-around m begun asks answered = record { size = size_of m; me = m.me; process = m.process; inst = m.inst; begun = begun; inbox = m.inbox; asks = asks; answered = answered }
-
--- what it keeps is that of a node
-pub record HasGuards (begun : ℕ) (asks : List (Option InstName)) (answered : ℕ) (y : NodeState) : Type 0 where
-  pub begun : begun ≡ y.begun
-  pub asks : (q : ℕ) → slice_index_or asks q None ≡ y.asks q
-  pub answered : (q : ℕ) → has answered q ≡ y.answered q
-
-pub guards_of : (w : ManagerState) (y : NodeState) → ShowsNode w y → HasGuards w.begun w.asks w.answered y
+pub guards_of : (w : ManagerState) (y : NodeState) → ShowsNode w y → HasGuards w y
 guards_of w y h = record { begun = h.holds.begun; asks = h.holds.asks; answered = h.answered }
 
 pub core_shows : (w : ManagerState) (y : NodeState) → w.process.tables.processes ≡ w.size → ShowsNode w y → ShowsManager (core_of w) y
@@ -48,27 +37,30 @@ core_shows w y e h = record {
   inst = h.inst;
 }
 
--- of a manager that is around another one
-pub core_inside : (m : CoreState) (begun answered : ℕ) (asks : List (Option InstName)) (w : ManagerState) (y : NodeState) → around m begun asks answered ≡ w → ShowsNode w y → ShowsManager m y
-core_inside m begun answered asks w y e h = core_shows (around m begun asks answered) y refl (subst (λ (v : ManagerState). ShowsNode v y) (sym e) h)
+-- of a manager that was opened
+pub core_inside : (v w : ManagerState) (y : NodeState) → v.process.tables.processes ≡ v.size → v ≡ w → ShowsNode w y → ShowsManager (core_of v) y
+core_inside v w y s e h = core_shows v y s (subst (λ (u : ManagerState). ShowsNode u y) (sym e) h)
 
-pub guards_inside : (m : CoreState) (begun answered : ℕ) (asks : List (Option InstName)) (w : ManagerState) (y : NodeState) → around m begun asks answered ≡ w → ShowsNode w y → HasGuards begun asks answered y
-guards_inside m begun answered asks w y e h = guards_of (around m begun asks answered) y (subst (λ (v : ManagerState). ShowsNode v y) (sym e) h)
+pub guards_inside : (v w : ManagerState) (y : NodeState) → v ≡ w → ShowsNode w y → HasGuards v y
+guards_inside v w y e h = guards_of v y (subst (λ (u : ManagerState). ShowsNode u y) (sym e) h)
 
-shows_around : (m : CoreState) (begun answered : ℕ) (asks : List (Option InstName)) (y : NodeState) → ShowsManager m y → HasGuards begun asks answered y → ShowsNode (around m begun asks answered) y
-shows_around m begun answered asks y h g = record {
-  holds = record { processes = h.holds.processes; me = h.holds.me; begun = g.begun; held = h.holds.held; kept = h.holds.kept; asks = g.asks };
+shows_guarded : (w : ManagerState) (y : NodeState) → w.process.tables.processes ≡ w.size → ShowsManager (core_of w) y → HasGuards w y → ShowsNode w y
+shows_guarded w y s h g = record {
+  holds = record { processes = sym s ∙ h.holds.processes; me = h.holds.me; begun = g.begun; held = h.holds.held; kept = h.holds.kept; asks = g.asks };
   process = h.process;
   inst = h.inst;
   answered = g.answered;
 }
 
-pub done_around : (m : CoreState) (begun answered : ℕ) (asks : List (Option InstName)) (e : Effects) (d : Doing) → IsCoreDone m e d → HasGuards begun asks answered d.state → IsDone (around m begun asks answered) e d
-done_around m begun answered asks e d done g = record { state = shows_around m begun answered asks d.state done.state g; puts = done.puts; rows = done.rows; acts = done.acts }
+pub done_guarded : (w : ManagerState) (e : Effects) (d : Doing) → w.process.tables.processes ≡ w.size → IsCoreDone (core_of w) e d → HasGuards w d.state → IsDone w e d
+done_guarded w e d s done g = record { state = shows_guarded w d.state s done.state g; puts = done.puts; rows = done.rows; acts = done.acts }
 
-pub same_around : (new old : CoreState) (begun answered : ℕ) (asks : List (Option InstName)) (w : ManagerState) → around old begun asks answered ≡ w → IsSameCore new old → IsSameManager (around new begun asks answered) w
-same_around new old begun answered asks w e s = subst (λ (v : ManagerState). IsSameManager (around new begun asks answered) v) e
-    (record { size = ap (λ (x : ProcessState). x.tables.processes) s.process; me = s.me; process = s.process; inst = s.inst; begun = refl; held = s.held; kept = s.kept; asks = refl; answered = refl })
+-- where another manager is around the same one
+pub done_core : (w : ManagerState) (m : CoreState) (e : Effects) (d : Doing) → core_of w ≡ m → w.process.tables.processes ≡ w.size → IsCoreDone m e d → HasGuards w d.state → IsDone w e d
+done_core w m e d is s done g = done_guarded w e d s (subst (λ (c : CoreState). IsCoreDone c e d) (sym is) done) g
+
+pub same_core : (v w : ManagerState) → v.size ≡ w.size → v.begun ≡ w.begun → v.asks ≡ w.asks → v.answered ≡ w.answered → IsSameCore (core_of v) (core_of w) → IsSameManager v w
+same_core v w a b c d s = record { size = a; me = s.me; process = s.process; inst = s.inst; begun = b; held = s.held; kept = s.kept; asks = c; answered = d }
 
 -- a state has the guards of another one
 pub record IsGuarded (old new : NodeState) : Type 0 where
@@ -76,8 +68,8 @@ pub record IsGuarded (old new : NodeState) : Type 0 where
   pub asks : (q : ℕ) → old.asks q ≡ new.asks q
   pub answered : (q : ℕ) → old.answered q ≡ new.answered q
 
-pub guarded_on : (begun : ℕ) (asks : List (Option InstName)) (answered : ℕ) (old new : NodeState) → HasGuards begun asks answered old → IsGuarded old new → HasGuards begun asks answered new
-guarded_on begun asks answered old new g k = record { begun = g.begun ∙ k.begun; asks = λ q. g.asks q ∙ k.asks q; answered = λ q. g.answered q ∙ k.answered q }
+pub guarded_on : (w : ManagerState) (old new : NodeState) → HasGuards w old → IsGuarded old new → HasGuards w new
+guarded_on w old new g k = record { begun = g.begun ∙ k.begun; asks = λ q. g.asks q ∙ k.asks q; answered = λ q. g.answered q ∙ k.answered q }
 
 pub alike : (y : NodeState) → IsGuarded y y
 alike y = record { begun = refl; asks = λ q. refl; answered = λ q. refl }
@@ -100,13 +92,6 @@ ended k None d = closed d.state d.state.part.is_rollback d.state.part.willing
 
 pub settled : (k : InstName) (d : Doing) → IsGuarded d.state (settling k d).state
 settled k d = one_of d.state (d.state.part.awaited == 0) (ending k d.state.part.parent d) d (ended k d.state.part.parent d) (alike d.state)
-
--- with what beginning an instance leaves of them, and joining one
-abbrev pub begun_guards : NodeState → NodeState
-begun_guards y = record y { begun = y.begun + 1; answered = λ q. false }
-
-abbrev pub joined_guards : NodeState → NodeState
-joined_guards y = record y { answered = λ q. false }
 
 -- a command to begin
 pub begin_guarded : (k : InstName) (o : Option InstName) (y : NodeState) (roll able : Bool) → IsGuarded (if begins o y roll able then begun_guards y else y) (told_to_begin k o y roll able).state
@@ -172,8 +157,8 @@ at_ask l q k asks b h u = elim (cases_eq u q) [
   | inr n ↦ get_or-set_other l q u (Some k) None n ∙ (h u ∙ sym (at_one_other q u (Some k) asks n))
 ]
 
-pub guards_asked : (begun : ℕ) (asks : List (Option InstName)) (answered : ℕ) (y : NodeState) (q i : ℕ) (k : InstName) → i ≡ q → i < length asks → HasGuards begun asks answered y → HasGuards begun (slice_set asks i (Some k)) answered (asking y q k)
-guards_asked begun asks answered y q i k e b g = record { begun = g.begun; asks = λ u. at_ask asks i k y.asks b g.asks u ∙ ap (λ (n : ℕ). at_one n (Some k) y.asks u) e; answered = g.answered }
+pub guards_asked : (w : ManagerState) (y : NodeState) (q i : ℕ) (k : InstName) → i ≡ q → i < length w.asks → HasGuards w y → HasGuards (record w { asks = slice_set w.asks i (Some k) }) (asking y q k)
+guards_asked w y q i k e b g = record { begun = g.begun; asks = λ u. at_ask w.asks i k y.asks b g.asks u ∙ ap (λ (n : ℕ). at_one n (Some k) y.asks u) e; answered = g.answered }
 
 -- so it shows the node that was asked
 pub asked_shows : (m : CoreState) (y : NodeState) (q : ℕ) (k : InstName) → ShowsManager m y → ShowsManager m (asking y q k)
@@ -189,14 +174,11 @@ none_each (suc n) zero = refl
 none_each (suc n) (suc q) = none_each n q
 
 -- with nobody's reply, and with q's
-pub guards_joined : (begun : ℕ) (asks : List (Option InstName)) (answered none : ℕ) (y : NodeState) → ((q : ℕ) → has none q ≡ false) → HasGuards begun asks answered y → HasGuards begun asks none (joined_guards y)
-guards_joined begun asks answered none y e g = record { begun = g.begun; asks = g.asks; answered = e }
+pub guards_joined : (w : ManagerState) (none : ℕ) (y : NodeState) → ((q : ℕ) → has none q ≡ false) → HasGuards w y → HasGuards (record w { answered = none }) (joined_guards y)
+guards_joined w none y e g = record { begun = g.begun; asks = g.asks; answered = e }
 
-pub guards_begun : (begun : ℕ) (asks : List (Option InstName)) (answered none : ℕ) (y : NodeState) → ((q : ℕ) → has none q ≡ false) → HasGuards begun asks answered y → HasGuards (begun + 1) asks none (begun_guards y)
-guards_begun begun asks answered none y e g = record { begun = ap (λ (n : ℕ). n + 1) g.begun; asks = g.asks; answered = e }
-
-pub guards_counted : (begun : ℕ) (asks : List (Option InstName)) (answered more : ℕ) (y : NodeState) (q : ℕ) (w : Bool) → has more q ≡ true → ((u : ℕ) → u ≢ q → has more u ≡ has answered u) → HasGuards begun asks answered y → HasGuards begun asks more (counting y q w)
-guards_counted begun asks answered more y q w added others g = record {
+pub guards_counted : (w : ManagerState) (more : ℕ) (y : NodeState) (q : ℕ) (c : Bool) → has more q ≡ true → ((u : ℕ) → u ≢ q → has more u ≡ has w.answered u) → HasGuards w y → HasGuards (record w { answered = more }) (counting y q c)
+guards_counted w more y q c added others g = record {
   begun = g.begun;
   asks = g.asks;
   answered = λ u. elim (cases_eq u q) [

@@ -47,7 +47,6 @@ pub mod OnWay
 pub mod Clustering
 pub mod Turning
 pub mod Spending
-pub mod Wanting
 pub mod OwnMarks
 pub mod CallHistories
 pub mod NetHistories

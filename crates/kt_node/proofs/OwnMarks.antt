@@ -2,7 +2,7 @@
 use Rattle.std.specs.Prelude.{◌==◌, ◌&&◌, if◌then◌else◌}
 use Rattle.std.proofs.Common.{◌≡◌, ◌∙◌, ◌≤◌, ℕ, ℤ, Bool, true, false, not, Option, Some, None, List, [], ◌∷◌, ◌++◌, length, refl, sym, ap, subst, arith, length-append}
 use Rattle.std.proofs.lemmas.List.{length-map}
-use Rattle.kt_fifo.specs.Channels.{channel}
+use Rattle.kt_manager.specs.Inboxes.{kept_of}
 use Rattle.kt_meaning.specs.Past.{at_one, is_rollback_kind}
 use Rattle.kt_machine.specs.CallTests.{must_take, must_roll}
 use Rattle.kt_machine.specs.Seen.{SeenPart}
@@ -17,10 +17,10 @@ use Rattle.kt_manager.specs.NodeJoining.{next_name, beginning, joining_checkpoin
 use Rattle.kt_manager.specs.NodeClosing.{after_checkpoint, after_rollback, ending, settling}
 use Rattle.kt_manager.specs.NodeSteps.{is_one, told_to_begin, asked, counting, taking, is_step, node_after}
 use Rattle.kt_node.specs.Nets.{opening_net}
-use Rattle.kt_node.specs.Managers.{ManagerState, ShowsNode, no_name}
-use Rattle.kt_manager.specs.Managers.{number_in}
-use Rattle.kt_node.specs.Erasing.{erased_parcel}
-use Rattle.kt_node.specs.OwnParts.{HasOwnPart, HasOwnMarks}
+use Rattle.kt_node.specs.Managers.{ManagerState, ShowsNode}
+use Rattle.kt_manager.specs.Managers.{number_in, as_parcel}
+use Rattle.kt_manager.specs.OwnParts.{HasOwnMarks}
+use Rattle.kt_node.specs.OwnParts.{HasOwnPart}
 
 pub marks_opening : (n first p : ℕ) → HasOwnMarks ((opening_net n first).nodes p)
 marks_opening n first p = λ q. omega arith
@@ -95,6 +95,6 @@ own_shown w y s h = record {
   named = s.process.inst ∙ (λ i. number_in (sym s.inst i));
   marks = λ q b.
       let marks : (part_shown w.process.side).marks q ≡ y.part.marks q = ap (λ (p : SeenPart). p.marks q) s.process.part in
-      let kept : length (channel w.kept q w.me) ≡ length (y.kept q) = sym (length-map (channel w.kept q w.me) (erased_parcel no_name)) ∙ ap (λ (l : NodeLists). length (l q)) s.holds.kept in
+      let kept : length (kept_of w.inbox q) ≡ length (y.kept q) = sym (length-map (kept_of w.inbox q) as_parcel) ∙ ap (λ (l : NodeLists). length (l q)) s.holds.kept in
       omega (arith, marks, kept, h q);
 }

@@ -46,6 +46,12 @@ pub record HoldsFor (w : ManagerState) (y : NodeState) : Type 0 where
 abbrev pub HasAnswered : ManagerState → NodeState → Type 0
 HasAnswered w y = (q : ℕ) → has w.answered q ≡ y.answered q
 
+-- what it guards itself by is that of a node
+pub record HasGuards (w : ManagerState) (y : NodeState) : Type 0 where
+  pub begun : w.begun ≡ y.begun
+  pub asks : (q : ℕ) → slice_index_or w.asks q None ≡ y.asks q
+  pub answered : HasAnswered w y
+
 -- a manager is this state of a node
 pub record ShowsNode (w : ManagerState) (y : NodeState) : Type 0 where
   pub holds : HoldsFor w y

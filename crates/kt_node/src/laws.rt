@@ -42,7 +42,8 @@ ghost use Rattle.kt_node.specs.declared.node.Envelope.{Envelope};
 ghost use Rattle.kt_node.specs.declared.node.NodeFault.TheVariants as fault;
 ghost use Rattle.kt_manager.specs.declared.parcels.NodeParcel.TheVariants.{App};
 ghost use Rattle.kt_node.specs.Managers.{ManagerState, ShowsNode};
-ghost use Rattle.kt_node.specs.OwnParts.{HasOwnPart, HasOwnMarks};
+ghost use Rattle.kt_manager.specs.OwnParts.{HasOwnMarks};
+ghost use Rattle.kt_node.specs.OwnParts.{HasOwnPart};
 
 /// For every number of nodes, every label that they count on from, and every list of steps: a net is what is seen of
 /// kt_protocol's late machine after the same steps, by the names that its log gives; and its rows are that log.

@@ -1,15 +1,15 @@
 //! Instances begun, joined and closed.
 
-ghost use Rattle.std.specs.Prelude.{◌≡◌, ◌<◌, true, Some, Bool, IfOk, OnErr};
+ghost use Rattle.std.specs.Prelude.{◌≡◌, ◌<◌, ◌+◌, ◌^◌, if◌then◌else◌, true, Some, Bool, IfOk, OnErr};
 ghost use Rattle.kt_meaning.specs.Past.{is_rollback_kind};
 ghost use Rattle.kt_manager.specs.Nodes.{NodeState, Begin};
 ghost use Rattle.kt_manager.specs.NodeSteps.{is_in, node_after, taking, awaits, heeds};
 ghost use Rattle.kt_manager.specs.Managers.{awaited_by};
 ghost use Rattle.kt_manager.specs.declared.parcels.NodeParcel.TheVariants as put;
-ghost use Rattle.kt_node.specs.Managers.{ShowsNode, IsSameManager, core_of};
+ghost use Rattle.kt_node.specs.Managers.{HasGuards, ShowsNode, IsSameManager, core_of};
 ghost use Rattle.kt_node.specs.Effects.{IsDone};
 ghost use Rattle.kt_node.specs.Faults.{fault_at, IsRefusedAs};
-ghost use Rattle.kt_node.specs.Begins.{begins};
+ghost use Rattle.kt_node.specs.Begins.{begins, begun_guards, joined_guards};
 
 use super::Manager;
 use crate::faults::ManagerFault;
@@ -37,11 +37,35 @@ impl Manager {
         };
         let begins = self.begins(kind, able);
         let effects = self.core.begin(alloc, &inst, kind, able)?;
+        self.note_begun(begins);
+        Ok(effects)
+    }
+
+    /// One instance more was begun, if so, and joined.
+    fn note_begun(&mut self, begins: bool)
+        requires { self.old.begun + 1 < 2 ^ 48 }
+        ensures size { self.new.size ≡ self.old.size }
+        ensures core { core_of self.new ≡ core_of self.old }
+        ensures guards { (y : NodeState) → HasGuards self.old y →
+            HasGuards self.new (if begins then begun_guards y else y) }
+    {
         if begins {
             self.begun += 1;
+        }
+        self.note_joined(begins);
+    }
+
+    /// An instance was joined, if so: nobody has replied in it.
+    fn note_joined(&mut self, joins: bool)
+        ensures size { self.new.size ≡ self.old.size }
+        ensures core { core_of self.new ≡ core_of self.old }
+        ensures begun { self.new.begun ≡ self.old.begun }
+        ensures guards { (y : NodeState) → HasGuards self.old y →
+            HasGuards self.new (if joins then joined_guards y else y) }
+    {
+        if joins {
             self.answered = ProcSet::empty();
         }
-        Ok(effects)
     }
 
     /// Whether it begins an instance of a kind where it is told to.
@@ -73,9 +97,8 @@ impl Manager {
         let was_in = self.core.in_inst().is_some();
         let effects = self.core.take_ask(alloc, from, ask, able)?;
         self.asks[from.index()] = Some(ask.inst);
-        if !was_in && self.core.in_inst().is_some() {
-            self.answered = ProcSet::empty();
-        }
+        let is_in = self.core.in_inst().is_some();
+        self.note_joined(!was_in && is_in);
         Ok(effects)
     }
 
