@@ -79,6 +79,8 @@ impl Manager {
         if parts.begun > Count::MAX {
             return None;
         }
+        let (begun, answered) = (parts.begun, parts.answered);
+        let asks = parts.asks;
         let core = Core::of(CoreParts {
             me: parts.me,
             process: parts.process,
@@ -88,9 +90,9 @@ impl Manager {
         let _size = core.size();
         Some(Manager {
             core,
-            begun: parts.begun,
-            asks: parts.asks,
-            answered: parts.answered,
+            begun,
+            asks,
+            answered,
         })
     }
 

@@ -1,0 +1,4 @@
+use Rattle.kt_node.proofs.manager.Manager.take_message.Goals as goal
+
+pub returns-clause-done : goal.returns-clause-done
+returns-clause-done c = λ y able h speaks. ?

@@ -1,0 +1,4 @@
+use Rattle.kt_node.proofs.manager.Manager.take_reply.Goals as goal
+
+pub returns : goal.returns
+returns c = λ y able h. ?
