@@ -59,6 +59,14 @@ done_guarded w e d s done g = record { state = shows_guarded w d.state s done.st
 pub done_core : (w : ManagerState) (m : CoreState) (e : Effects) (d : Doing) → core_of w ≡ m → w.process.tables.processes ≡ w.size → IsCoreDone m e d → HasGuards w d.state → IsDone w e d
 done_core w m e d is s done g = done_guarded w e d s (subst (λ (c : CoreState). IsCoreDone c e d) (sym is) done) g
 
+-- by another name of the instance
+pub done_named : (m : CoreState) (e : Effects) (k l : InstName) (y : NodeState) (roll able : Bool) → IsCoreDone m e (told_to_begin k y.inst y roll able) → k ≡ l → IsCoreDone m e (told_to_begin l y.inst y roll able)
+done_named m e k l y roll able done is = subst (λ (i : InstName). IsCoreDone m e (told_to_begin i y.inst y roll able)) is done
+
+-- as many processes as the one that it is around
+pub sized : (v w : ManagerState) → core_of v ≡ core_of w → v.size ≡ w.size → w.process.tables.processes ≡ w.size → v.process.tables.processes ≡ v.size
+sized v w e s t = ap (λ (m : CoreState). m.process.tables.processes) e ∙ (t ∙ sym s)
+
 pub same_core : (v w : ManagerState) → v.size ≡ w.size → v.begun ≡ w.begun → v.asks ≡ w.asks → v.answered ≡ w.answered → IsSameCore (core_of v) (core_of w) → IsSameManager v w
 same_core v w a b c d s = record { size = a; me = s.me; process = s.process; inst = s.inst; begun = b; held = s.held; kept = s.kept; asks = c; answered = d }
 

@@ -17,8 +17,8 @@ ghost use Rattle.kt_node.specs.Clusters.{step_of, net_after, IsRun, AreFresh, Ar
 ghost use Rattle.kt_node.specs.declared.cluster.ClusterFault.TheVariants as fault;
 
 use crate::node::{Node, NodeFault, Output};
-use kt_manager::NodeParcel;
 use kt_base::{Kind, Label, Memory, ProcNo};
+use kt_manager::NodeParcel;
 use kt_spacetime::ClockedRow;
 use std::alloc::Global;
 use std::marker::Model;

@@ -34,12 +34,12 @@ pub use cluster::{Cluster, ClusterFault, ClusterStep};
 pub use faults::ManagerFault;
 pub use histories::histories_of_nets;
 pub use inputs::Input;
+pub use kt_manager::{Effects, NodeParcel, Parcels};
 pub use laws::{
     acts_of_nets, calls_of_nodes, forged_parcels, logs_of_nets, looks_of_nodes,
     meetings_of_parcels, merges_of_nets, nets_are_runs, nodes_of_numbered_nets,
     numbered_nets_are_nets, order_of_nets, own_parts, permanent_checkpoints,
 };
-pub use kt_manager::{Effects, NodeParcel, Parcels};
 pub use manager::{Manager, ManagerParts};
 pub use node::{Envelope, Node, NodeFault, Output, Taken};
 pub use reach::{Reach, Reaches};

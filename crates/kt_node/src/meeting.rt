@@ -4,8 +4,8 @@ ghost use Rattle.std.specs.Prelude.{◌≡◌, length};
 ghost use Rattle.kt_node.specs.Meetings.{held_label, held_of, is_far, is_far_message, is_leap, is_stale, is_stale_held, last_label, meeting_of, received_label};
 
 use crate::node::{Envelope, Node, NodeFault};
-use kt_manager::NodeParcel;
 use kt_base::ProcNo;
+use kt_manager::NodeParcel;
 
 /// How far a clock or a label may be above the one that a node has: 2^40.
 const FAR: u64 = 1_099_511_627_776;

@@ -20,13 +20,12 @@ ghost use Rattle.kt_node.specs.Links.{AreCounted, ShowsLinks, IsStep, TakesNext,
 ghost use Rattle.kt_node.specs.declared.faults.ManagerFault.TheVariants as of_manager;
 ghost use Rattle.kt_node.specs.declared.node.NodeFault.TheVariants as fault;
 
-use kt_manager::{Effects, Parcels};
 use crate::faults::ManagerFault;
 use crate::inputs::Input;
 use crate::manager::Manager;
-use kt_manager::NodeParcel;
 use crate::reach::{Reach, Reaches};
 use kt_base::{Kind, Label, Memory, ProcNo};
+use kt_manager::{Effects, NodeParcel, Parcels};
 use kt_plan::Look;
 use std::alloc::Global;
 use std::marker::Model;

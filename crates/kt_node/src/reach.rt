@@ -9,8 +9,8 @@ ghost use Rattle.kt_node.specs.Reaches.{IsReach, HasReaches};
 ghost use Rattle.kt_node.specs.Effects.{calls_of};
 ghost use Rattle.kt_manager.specs.Effects.{rows_told};
 
-use kt_manager::Effects;
 use kt_base::{Label, ProcNo};
+use kt_manager::Effects;
 use kt_plan::Act;
 use kt_spacetime::{Count, NamedEvent};
 

@@ -1,6 +1,6 @@
 //! Instances begun, joined and closed.
 
-ghost use Rattle.std.specs.Prelude.{◌≡◌, ◌<◌, ◌+◌, ◌^◌, if◌then◌else◌, true, Some, Bool, IfOk, OnErr};
+ghost use Rattle.std.specs.Prelude.{◌≡◌, ◌<◌, ◌+◌, ◌^◌, ◌&&◌, not, is_some, if◌then◌else◌, true, Some, Bool, IfOk, OnErr};
 ghost use Rattle.kt_meaning.specs.Past.{is_rollback_kind};
 ghost use Rattle.kt_manager.specs.Nodes.{NodeState, Begin};
 ghost use Rattle.kt_manager.specs.NodeSteps.{is_in, node_after, taking, awaits, heeds};
@@ -49,23 +49,25 @@ impl Manager {
         ensures guards { (y : NodeState) → HasGuards self.old y →
             HasGuards self.new (if begins then begun_guards y else y) }
     {
-        if begins {
-            self.begun += 1;
+        if !begins {
+            return;
         }
-        self.note_joined(begins);
+        self.begun += 1;
+        self.answered = ProcSet::empty();
     }
 
-    /// An instance was joined, if so: nobody has replied in it.
-    fn note_joined(&mut self, joins: bool)
+    /// Where it was in no instance and is in one by now, it has joined that, and nobody has replied in it.
+    fn note_joined(&mut self, was_in: bool)
         ensures size { self.new.size ≡ self.old.size }
         ensures core { core_of self.new ≡ core_of self.old }
-        ensures begun { self.new.begun ≡ self.old.begun }
         ensures guards { (y : NodeState) → HasGuards self.old y →
-            HasGuards self.new (if joins then joined_guards y else y) }
+            HasGuards self.new
+            (if not was_in && is_some self.old.inst then joined_guards y else y) }
     {
-        if joins {
-            self.answered = ProcSet::empty();
+        if was_in || self.core.in_inst().is_none() {
+            return;
         }
+        self.answered = ProcSet::empty();
     }
 
     /// Whether it begins an instance of a kind where it is told to.
@@ -97,8 +99,7 @@ impl Manager {
         let was_in = self.core.in_inst().is_some();
         let effects = self.core.take_ask(alloc, from, ask, able)?;
         self.asks[from.index()] = Some(ask.inst);
-        let is_in = self.core.in_inst().is_some();
-        self.note_joined(!was_in && is_in);
+        self.note_joined(was_in);
         Ok(effects)
     }
 

@@ -9,8 +9,8 @@ ghost use Rattle.kt_node.specs.Looks.{input_of, look_of};
 
 use super::Manager;
 use crate::inputs::Input;
-use kt_manager::NodeParcel;
 use kt_base::{Kind, ProcNo};
+use kt_manager::NodeParcel;
 use kt_plan::Look;
 use kt_spacetime::Count;
 

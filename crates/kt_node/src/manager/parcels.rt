@@ -10,11 +10,9 @@ ghost use Rattle.kt_node.specs.Faults.{fault_at, wants_memory, IsRefusedAs};
 ghost use Rattle.kt_node.specs.declared.faults.ManagerFault.TheVariants as fault;
 
 use super::Manager;
-use kt_manager::Ask;
-use kt_manager::Effects;
 use crate::faults::ManagerFault;
-use kt_manager::NodeParcel;
 use kt_base::ProcNo;
+use kt_manager::{Ask, Effects, NodeParcel};
 use std::alloc::Global;
 
 impl Manager {
