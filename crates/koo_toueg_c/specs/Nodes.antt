@@ -3,7 +3,7 @@ use Rattle.std.specs.Prelude.{◌≡◌, ◌<◌, ◌≤◌, ◌+◌, ◌-◌, �
 use Rattle.kt_meaning.specs.Past.{at_one}
 use Rattle.kt_text.specs.Writing.{text_of}
 use Rattle.kt_manager.specs.Nodes.{NodeState, Doing, is_in_rollback}
-use Rattle.kt_manager.specs.NodeSteps.{node_after}
+use Rattle.kt_node.specs.NodeSteps.{node_after}
 use Rattle.kt_node.specs.Nets.{opening_net, has_some}
 use Rattle.kt_manager.specs.declared.parcels.NodeParcel.{NodeParcel}
 use Rattle.kt_manager.specs.ShownActs.{acts_shown}

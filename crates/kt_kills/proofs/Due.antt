@@ -11,9 +11,10 @@ use Rattle.kt_tables.specs.Calls.{Call, sent, received, on_tentative, on_commit,
 use Rattle.kt_spacetime.specs.declared.named_rows.NamedEvent.{NamedEvent}
 use Rattle.kt_spacetime.specs.declared.named_rows.NamedEvent.TheVariants.{Sent, Received, Dropped, Began, Took, Ready, Unwilling, Decided, Closed, Failed, Refused}
 use Rattle.kt_protocol.specs.States as protocol
-use Rattle.kt_manager.specs.Nodes.{NodeState, Input}
-use Rattle.kt_manager.specs.Nodes as input
-use Rattle.kt_manager.specs.NodeSteps.{is_step, node_after}
+use Rattle.kt_manager.specs.Nodes.{NodeState}
+use Rattle.kt_node.specs.Inputs.{Input}
+use Rattle.kt_node.specs.Inputs as input
+use Rattle.kt_node.specs.NodeSteps.{is_step, node_after}
 use Rattle.kt_base.specs.declared.words.Verb.TheVariants as verb
 use Rattle.kt_spacetime.specs.declared.named_rows.NamedCause.TheVariants.{Down}
 use Rattle.kt_manager.specs.NodeMessages.{sending, refusing}

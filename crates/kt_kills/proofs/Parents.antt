@@ -10,11 +10,13 @@ use Rattle.kt_spacetime.specs.declared.named_rows.NamedCause.TheVariants.{Down, 
 use Rattle.kt_base.specs.declared.words.Verb.TheVariants as verb
 use Rattle.kt_manager.specs.declared.parcels.NodeParcel.{NodeParcel}
 use Rattle.kt_manager.specs.declared.parcels.NodeParcel.TheVariants.{App, Ask, Reply, Decide}
-use Rattle.kt_manager.specs.Nodes.{NodeState, Input, Send, Begin, Fail, Held, Comes, Doing, nothing, is_in_rollback}
+use Rattle.kt_manager.specs.Nodes.{NodeState, Doing, nothing, is_in_rollback}
+use Rattle.kt_node.specs.Inputs.{Input, Send, Begin, Fail, Held, Comes}
 use Rattle.kt_manager.specs.NodeMessages.{sending, receiving, arriving, holding, taking_held, failing, refusing, unable}
-use Rattle.kt_manager.specs.NodeJoining.{next_name, beginning, joining_checkpoint, joining_rollback, replying, unwilling, noting, asking}
+use Rattle.kt_manager.specs.NodeJoining.{beginning, joining_checkpoint, joining_rollback, replying, unwilling, noting}
+use Rattle.kt_node.specs.NodeSteps.{next_name, asking, awaits, heeds, taking, is_step, node_after}
 use Rattle.kt_manager.specs.NodeClosing.{after_checkpoint, after_rollback, closing, ending, settling}
-use Rattle.kt_manager.specs.NodeSteps.{is_one, starting, told_to_begin, asked, awaits, heeds, counting, taking, is_step, node_after}
+use Rattle.kt_manager.specs.NodeSteps.{is_one, starting, told_to_begin, asked, counting}
 use Rattle.kt_kills.proofs.PlainSteps.{from_of, either}
 
 -- the one that it answers, if there is one, is one of so many

@@ -15,11 +15,12 @@ use Rattle.kt_machine.specs.SeenActs.{seen_acts_arriving, seen_acts_ending, seen
 use Rattle.kt_spacetime.specs.declared.names.InstName.{InstName}
 use Rattle.kt_manager.specs.declared.parcels.NodeParcel.TheVariants as put
 use Rattle.kt_manager.specs.Nodes.{NodeState, Doing, nothing, is_in_rollback}
-use Rattle.kt_manager.specs.Nodes as input
+use Rattle.kt_node.specs.Inputs as input
 use Rattle.kt_manager.specs.NodeMessages.{arriving}
-use Rattle.kt_manager.specs.NodeJoining.{next_name, beginning, joining_checkpoint, joining_rollback}
+use Rattle.kt_manager.specs.NodeJoining.{beginning, joining_checkpoint, joining_rollback}
+use Rattle.kt_node.specs.NodeSteps.{next_name, awaits, heeds, taking, is_step, node_after}
 use Rattle.kt_manager.specs.NodeClosing.{ending, settling}
-use Rattle.kt_manager.specs.NodeSteps.{starting, told_to_begin, asked_outside, asked, awaits, heeds, counting, taking, is_step, node_after}
+use Rattle.kt_manager.specs.NodeSteps.{starting, told_to_begin, asked_outside, asked, counting}
 use Rattle.kt_node.specs.Nets.{Net}
 use Rattle.kt_node.proofs.Done.{IsDone}
 use Rattle.kt_node.proofs.Takings.{MayHeed, heed_test, await_test, ready_test}

@@ -22,11 +22,12 @@ use Rattle.kt_spacetime.specs.declared.named_rows.NamedCause.TheVariants as own_
 use Rattle.kt_meaning.specs.Names.{nothing_given, numbered_cause}
 use Rattle.kt_meaning.proofs.GivenFacts.{none_given}
 use Rattle.kt_manager.specs.Nodes.{NodeState, Doing, nothing}
-use Rattle.kt_manager.specs.Nodes as input
+use Rattle.kt_node.specs.Inputs as input
 use Rattle.kt_manager.specs.NodeMessages.{unable}
 use Rattle.kt_manager.specs.NodeJoining.{beginning, joining_checkpoint, joining_rollback}
 use Rattle.kt_manager.specs.NodeClosing.{settling}
-use Rattle.kt_manager.specs.NodeSteps.{starting, told_to_begin, is_step, node_after}
+use Rattle.kt_manager.specs.NodeSteps.{starting, told_to_begin}
+use Rattle.kt_node.specs.NodeSteps.{is_step, node_after}
 use Rattle.kt_node.specs.Nets.{Net}
 use Rattle.kt_node.proofs.Naming.{IsNaming, all_given, naming_before, given_more_rows}
 use Rattle.kt_node.proofs.Told.{given}

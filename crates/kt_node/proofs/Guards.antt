@@ -12,12 +12,13 @@ use Rattle.kt_machine.specs.SeenJoining.{no_note}
 use Rattle.kt_spacetime.specs.declared.names.InstName.{InstName}
 use Rattle.kt_spacetime.specs.declared.named_rows.NamedCause.TheVariants.{Busy, Down}
 use Rattle.kt_spacetime.specs.declared.named_rows.NamedEvent.TheVariants.{Dropped}
-use Rattle.kt_manager.specs.declared.effects.Effects.{Effects}
+use Rattle.kt_manager.specs.Told.{Told}
 use Rattle.kt_manager.specs.declared.parcels.NodeParcel.{NodeParcel}
 use Rattle.kt_manager.specs.declared.parcels.NodeParcel.TheVariants.{App, Ask, Reply, Decide}
 use Rattle.kt_manager.specs.Nodes.{NodeState, Doing, nothing, is_in_rollback}
 use Rattle.kt_manager.specs.NodeMessages.{sending, receiving, arriving, holding, taking_held, failing, refusing, unable}
-use Rattle.kt_manager.specs.NodeJoining.{beginning, joining_checkpoint, joining_rollback, replying, unwilling, asking, noting}
+use Rattle.kt_manager.specs.NodeJoining.{beginning, joining_checkpoint, joining_rollback, replying, unwilling, noting}
+use Rattle.kt_node.specs.NodeSteps.{asking}
 use Rattle.kt_manager.specs.NodeClosing.{after_checkpoint, after_rollback, closing, ending, settling}
 use Rattle.kt_manager.specs.NodeSteps.{is_one, starting, told_to_begin, asked, counting}
 use Rattle.kt_manager.specs.Turns.{told_to_send, told_to_fail, taking_message}
@@ -52,15 +53,15 @@ shows_guarded w y s h g = record {
   answered = g.answered;
 }
 
-pub done_guarded : (w : ManagerState) (e : Effects) (d : Doing) → w.process.tables.processes ≡ w.size → IsCoreDone (core_of w) e d → HasGuards w d.state → IsDone w e d
+pub done_guarded : (w : ManagerState) (e : Told) (d : Doing) → w.process.tables.processes ≡ w.size → IsCoreDone (core_of w) e d → HasGuards w d.state → IsDone w e d
 done_guarded w e d s done g = record { state = shows_guarded w d.state s done.state g; puts = done.puts; rows = done.rows; acts = done.acts }
 
 -- where another manager is around the same one
-pub done_core : (w : ManagerState) (m : CoreState) (e : Effects) (d : Doing) → core_of w ≡ m → w.process.tables.processes ≡ w.size → IsCoreDone m e d → HasGuards w d.state → IsDone w e d
+pub done_core : (w : ManagerState) (m : CoreState) (e : Told) (d : Doing) → core_of w ≡ m → w.process.tables.processes ≡ w.size → IsCoreDone m e d → HasGuards w d.state → IsDone w e d
 done_core w m e d is s done g = done_guarded w e d s (subst (λ (c : CoreState). IsCoreDone c e d) (sym is) done) g
 
 -- by another name of the instance
-pub done_named : (m : CoreState) (e : Effects) (k l : InstName) (y : NodeState) (roll able : Bool) → IsCoreDone m e (told_to_begin k y.inst y roll able) → k ≡ l → IsCoreDone m e (told_to_begin l y.inst y roll able)
+pub done_named : (m : CoreState) (e : Told) (k l : InstName) (y : NodeState) (roll able : Bool) → IsCoreDone m e (told_to_begin k y.inst y roll able) → k ≡ l → IsCoreDone m e (told_to_begin l y.inst y roll able)
 done_named m e k l y roll able done is = subst (λ (i : InstName). IsCoreDone m e (told_to_begin i y.inst y roll able)) is done
 
 -- as many processes as the one that it is around

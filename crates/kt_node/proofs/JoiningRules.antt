@@ -19,7 +19,8 @@ use Rattle.kt_spacetime.specs.declared.named_rows.NamedEvent.TheVariants as own
 use Rattle.kt_meaning.specs.Names.{name_of, row_of}
 use Rattle.kt_manager.specs.declared.parcels.NodeParcel.TheVariants as put
 use Rattle.kt_manager.specs.Nodes.{NodeState, Doing, nothing}
-use Rattle.kt_manager.specs.NodeJoining.{next_name, beginning, joining_checkpoint, joining_rollback, noting}
+use Rattle.kt_manager.specs.NodeJoining.{beginning, joining_checkpoint, joining_rollback, noting}
+use Rattle.kt_node.specs.NodeSteps.{next_name}
 use Rattle.kt_node.specs.Nets.{Net}
 use Rattle.kt_node.specs.Erasing.{erased_inst, erased_parcel, erased_parcels}
 use Rattle.kt_node.proofs.Naming.{IsNaming}

@@ -16,11 +16,13 @@ use Rattle.kt_spacetime.specs.declared.named_rows.NamedEvent.{NamedEvent}
 use Rattle.kt_spacetime.specs.declared.named_rows.NamedEvent.TheVariants.{Dropped, Decided, Closed}
 use Rattle.kt_manager.specs.declared.parcels.NodeParcel.{NodeParcel}
 use Rattle.kt_manager.specs.declared.parcels.NodeParcel.TheVariants.{App, Ask, Reply, Decide}
-use Rattle.kt_manager.specs.Nodes.{NodeState, Input, Send, Begin, Fail, Held, Comes, Doing, nothing, is_in_rollback}
+use Rattle.kt_manager.specs.Nodes.{NodeState, Doing, nothing, is_in_rollback}
+use Rattle.kt_node.specs.Inputs.{Input, Send, Begin, Fail, Held, Comes}
 use Rattle.kt_manager.specs.NodeMessages.{sending, receiving, arriving, taking_held, refusing}
-use Rattle.kt_manager.specs.NodeJoining.{next_name, beginning, joining_checkpoint, joining_rollback, asking}
+use Rattle.kt_manager.specs.NodeJoining.{beginning, joining_checkpoint, joining_rollback}
+use Rattle.kt_node.specs.NodeSteps.{next_name, asking, awaits, heeds, taking, is_step, node_after}
 use Rattle.kt_manager.specs.NodeClosing.{after_checkpoint, after_rollback, closing, ending, settling}
-use Rattle.kt_manager.specs.NodeSteps.{is_one, starting, told_to_begin, asked, awaits, heeds, counting, taking, is_step, node_after}
+use Rattle.kt_manager.specs.NodeSteps.{is_one, starting, told_to_begin, asked, counting}
 use Rattle.kt_node.specs.NodeHistories.{call_of_row, call_of_act, calls_told}
 
 -- what was done tells the calls that were made since this list

@@ -14,11 +14,13 @@ use Rattle.kt_spacetime.specs.declared.named_rows.NamedCause.TheVariants.{Down}
 use Rattle.kt_spacetime.specs.declared.named_rows.NamedEvent.TheVariants.{Dropped, Decided}
 use Rattle.kt_manager.specs.declared.parcels.NodeParcel.{NodeParcel}
 use Rattle.kt_manager.specs.declared.parcels.NodeParcel.TheVariants.{App, Ask, Reply, Decide}
-use Rattle.kt_manager.specs.Nodes.{NodeState, Input, Send, Begin, Fail, Held, Comes, Doing, nothing, is_in_rollback}
+use Rattle.kt_manager.specs.Nodes.{NodeState, Doing, nothing, is_in_rollback}
+use Rattle.kt_node.specs.Inputs.{Input, Send, Begin, Fail, Held, Comes}
 use Rattle.kt_manager.specs.NodeMessages.{sending, receiving, arriving, holding, taking_held, failing, refusing}
-use Rattle.kt_manager.specs.NodeJoining.{next_name, beginning, joining_checkpoint, joining_rollback, noting, asking}
+use Rattle.kt_manager.specs.NodeJoining.{beginning, joining_checkpoint, joining_rollback, noting}
+use Rattle.kt_node.specs.NodeSteps.{next_name, asking, awaits, heeds, is_step, node_after}
 use Rattle.kt_manager.specs.NodeClosing.{after_checkpoint, after_rollback, closing, ending, settling}
-use Rattle.kt_manager.specs.NodeSteps.{is_one, is_in, told_to_begin, asked, awaits, heeds, counting, is_step, node_after}
+use Rattle.kt_manager.specs.NodeSteps.{is_one, is_in, told_to_begin, asked, counting}
 
 -- what is asked last, once some parcels have come
 abbrev pub last_ask : Option InstName → List NodeParcel → Option InstName

@@ -11,11 +11,13 @@ use Rattle.kt_process.specs.Shown.{part_shown}
 use Rattle.kt_spacetime.specs.declared.names.InstName.{InstName}
 use Rattle.kt_manager.specs.declared.parcels.NodeParcel.{NodeParcel}
 use Rattle.kt_manager.specs.declared.parcels.NodeParcel.TheVariants.{App, Ask, Reply, Decide}
-use Rattle.kt_manager.specs.Nodes.{NodeLists, NodeState, Input, Send, Begin, Fail, Held, Comes, Doing, nothing, is_in_rollback}
+use Rattle.kt_manager.specs.Nodes.{NodeLists, NodeState, Doing, nothing, is_in_rollback}
+use Rattle.kt_node.specs.Inputs.{Input, Send, Begin, Fail, Held, Comes}
 use Rattle.kt_manager.specs.NodeMessages.{arriving, taking_held}
-use Rattle.kt_manager.specs.NodeJoining.{next_name, beginning, joining_checkpoint, joining_rollback, asking}
+use Rattle.kt_manager.specs.NodeJoining.{beginning, joining_checkpoint, joining_rollback}
+use Rattle.kt_node.specs.NodeSteps.{next_name, asking, taking, is_step, node_after}
 use Rattle.kt_manager.specs.NodeClosing.{after_checkpoint, after_rollback, ending, settling}
-use Rattle.kt_manager.specs.NodeSteps.{is_one, told_to_begin, asked, counting, taking, is_step, node_after}
+use Rattle.kt_manager.specs.NodeSteps.{is_one, told_to_begin, asked, counting}
 use Rattle.kt_node.specs.Nets.{opening_net}
 use Rattle.kt_node.specs.Managers.{ManagerState, ShowsNode}
 use Rattle.kt_manager.specs.Managers.{number_in, as_parcel}

@@ -18,11 +18,13 @@ use Rattle.kt_spacetime.specs.declared.named_rows.NamedCause.TheVariants.{Busy, 
 use Rattle.kt_spacetime.specs.declared.named_rows.NamedEvent.TheVariants.{Sent, Received, Took, Ready, Unwilling, Decided, Closed}
 use Rattle.kt_manager.specs.declared.parcels.NodeParcel.{NodeParcel}
 use Rattle.kt_manager.specs.declared.parcels.NodeParcel.TheVariants.{App, Ask, Reply, Decide}
-use Rattle.kt_manager.specs.Nodes.{NodeLists, NodeState, Input, Send, Begin, Fail, Held, Comes, Doing, nothing, putting, with_one, is_in_rollback}
+use Rattle.kt_manager.specs.Nodes.{NodeLists, NodeState, Doing, nothing, putting, with_one, is_in_rollback}
+use Rattle.kt_node.specs.Inputs.{Input, Send, Begin, Fail, Held, Comes}
 use Rattle.kt_manager.specs.NodeMessages.{sending, receiving, arriving, holding, taking_held, failing, refusing, unable}
-use Rattle.kt_manager.specs.NodeJoining.{next_name, beginning, joining_checkpoint, joining_rollback, replying, unwilling, asking, noting}
+use Rattle.kt_manager.specs.NodeJoining.{beginning, joining_checkpoint, joining_rollback, replying, unwilling, noting}
+use Rattle.kt_node.specs.NodeSteps.{next_name, asking, awaits, heeds, taking, is_step, node_after}
 use Rattle.kt_manager.specs.NodeClosing.{is_within, within, after_checkpoint, after_rollback, closing, ending, settling}
-use Rattle.kt_manager.specs.NodeSteps.{is_one, starting, told_to_begin, asked, awaits, heeds, counting, taking, is_step, node_after}
+use Rattle.kt_manager.specs.NodeSteps.{is_one, starting, told_to_begin, asked, counting}
 use Rattle.kt_node.specs.Erasing.{relabelled}
 use Rattle.kt_node.specs.FirstLabels.{raised, raised_call, raised_parcel, raised_part, raised_node}
 use Rattle.kt_node.proofs.RaisedCalls.{raised_some, le_raised, takes_raised, rolls_raised, asked_in_checkpoint_raised, checkpoint_label_raised, asked_in_rollback_raised, rollback_label_raised}

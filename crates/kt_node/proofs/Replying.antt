@@ -3,7 +3,8 @@ use Rattle.std.specs.Prelude.{◌==◌, ◌&&◌, not}
 use Rattle.std.proofs.Common.{◌≡◌, ℕ, Bool, true, false, refl}
 use Rattle.kt_spacetime.specs.declared.names.InstName.{InstName}
 use Rattle.kt_manager.specs.Nodes.{NodeState}
-use Rattle.kt_manager.specs.NodeSteps.{is_in, awaits, heeds}
+use Rattle.kt_manager.specs.NodeSteps.{is_in}
+use Rattle.kt_node.specs.NodeSteps.{awaits, heeds}
 
 -- who awaits a reply of q: it is in this instance, awaits some, asked q, and has no reply of it
 pub await_facts : (y : NodeState) (q : ℕ) (k : InstName) → awaits y q k ≡ true → (is_in y.inst k ≡ true) × ((y.part.awaited == 0) ≡ false)

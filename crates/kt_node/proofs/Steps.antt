@@ -29,8 +29,8 @@ use Rattle.kt_spacetime.specs.declared.names.InstName.{InstName}
 use Rattle.kt_manager.specs.declared.parcels.NodeParcel.{NodeParcel}
 use Rattle.kt_manager.specs.Nodes.{NodeState, nothing}
 use Rattle.kt_manager.specs.NodeMessages.{taking_held}
-use Rattle.kt_manager.specs.NodeJoining.{asking}
-use Rattle.kt_manager.specs.NodeSteps.{is_in, heeds}
+use Rattle.kt_node.specs.NodeSteps.{asking, heeds}
+use Rattle.kt_manager.specs.NodeSteps.{is_in}
 use Rattle.kt_node.specs.Nets.{Net, with_doing, with_rest, has_some, net_front, net_step}
 use Rattle.kt_node.specs.Erasing.{erased_parcels}
 use Rattle.kt_node.proofs.Naming.{IsNaming}

@@ -24,7 +24,8 @@ use Rattle.kt_manager.specs.declared.parcels.NodeParcel.TheVariants as put
 use Rattle.kt_manager.specs.Nodes.{NodeState, Doing, nothing, is_in_rollback}
 use Rattle.kt_manager.specs.NodeMessages.{unable}
 use Rattle.kt_manager.specs.NodeJoining.{replying, unwilling, noting}
-use Rattle.kt_manager.specs.NodeSteps.{is_one, is_in, asked_outside, asked, awaits, heeds, counting, taking}
+use Rattle.kt_manager.specs.NodeSteps.{is_one, is_in, asked_outside, asked, counting}
+use Rattle.kt_node.specs.NodeSteps.{awaits, heeds, taking}
 use Rattle.kt_node.specs.Nets.{Net}
 use Rattle.kt_node.proofs.Naming.{one_test}
 use Rattle.kt_node.proofs.Told.{given}

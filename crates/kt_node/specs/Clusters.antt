@@ -9,9 +9,10 @@ use Rattle.kt_machine.specs.Acts.{stepper}
 use Rattle.kt_spacetime.specs.declared.event.Event.{Event}
 use Rattle.kt_tables.specs.Calls.{Speaks}
 use Rattle.kt_manager.specs.ShownActs.{acts_shown}
-use Rattle.kt_manager.specs.Nodes.{NodeState, Input, Doing, nothing, is_in_rollback}
-use Rattle.kt_manager.specs.Nodes as input
-use Rattle.kt_manager.specs.NodeSteps.{node_after}
+use Rattle.kt_manager.specs.Nodes.{NodeState, Doing, nothing, is_in_rollback}
+use Rattle.kt_node.specs.Inputs.{Input}
+use Rattle.kt_node.specs.Inputs as input
+use Rattle.kt_node.specs.NodeSteps.{node_after}
 use Rattle.kt_node.specs.Nets.{opening_net, has_some}
 use Rattle.kt_node.specs.Clocks.{Envelope, ClockedNet, envelope, source_of, front_input, input_at, clock_after, left_after, clocked_input, clocked_run, opening_clocked}
 use Rattle.kt_node.specs.Erasing.{rows_from}
@@ -26,7 +27,7 @@ use Rattle.kt_node.specs.declared.node.NodeFault.TheVariants as node_fault
 use Rattle.kt_node.specs.declared.node.Output.{Output}
 use Rattle.kt_node.specs.declared.faults.ManagerFault.{ManagerFault}
 use Rattle.kt_node.specs.Effects.{IsDone}
-use Rattle.kt_manager.specs.Effects.{put_to, rows_told}
+use Rattle.kt_manager.specs.Effects.{put_to}
 use Rattle.kt_node.specs.Faults.{fault_at}
 use Rattle.kt_node.specs.Links.{NodeLinks, ShowsLinks, IsNodeRefusedAs}
 use Rattle.kt_node.specs.Reaches.{HasReaches}
@@ -154,7 +155,7 @@ doing_in w x = doing_at (w.nodes (stepper x)) (clocked_input w x)
 pub record IsPutOut (w after : ClockedNet) (x : ProtocolStep) (out : Output) : Type 0 where
   pub from : out.from ≡ stepper x
   pub clock : out.clock ≡ after.clock (stepper x)
-  pub rows : rows_told out.effects.rows ≡ (doing_in w x).rows
+  pub rows : out.effects.rows ≡ (doing_in w x).rows
   pub acts : acts_shown out.effects.acts ≡ (doing_in w x).acts
   pub parcels : (q : ℕ) → put_to out.effects.parcels q ≡ (doing_in w x).puts q
 

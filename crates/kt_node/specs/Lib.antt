@@ -1,5 +1,7 @@
 pub use Rattle.kt_machine.specs.SeenActs
 pub use Rattle.kt_meaning.specs.Names
+pub mod Inputs
+pub mod NodeSteps
 pub mod Nets
 pub mod Erasing
 pub mod FirstLabels

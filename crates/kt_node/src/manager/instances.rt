@@ -1,9 +1,11 @@
 //! Instances begun, joined and closed.
 
-ghost use Rattle.std.specs.Prelude.{◌≡◌, ◌<◌, ◌+◌, ◌^◌, ◌&&◌, not, is_some, if◌then◌else◌, true, Some, Bool, IfOk, OnErr};
+ghost use Rattle.std.specs.Prelude.{◌≡◌, ◌<◌, ◌+◌, ◌^◌, ◌&&◌, not, is_some, if◌then◌else◌, true, Some, Bool, OnOk, OnErr};
 ghost use Rattle.kt_meaning.specs.Past.{is_rollback_kind};
-ghost use Rattle.kt_manager.specs.Nodes.{NodeState, Begin};
-ghost use Rattle.kt_manager.specs.NodeSteps.{is_in, node_after, taking, awaits, heeds};
+ghost use Rattle.kt_manager.specs.Nodes.{NodeState};
+ghost use Rattle.kt_node.specs.Inputs.{Begin};
+ghost use Rattle.kt_manager.specs.NodeSteps.{is_in};
+ghost use Rattle.kt_node.specs.NodeSteps.{node_after, taking, awaits, heeds};
 ghost use Rattle.kt_manager.specs.Managers.{awaited_by};
 ghost use Rattle.kt_manager.specs.declared.parcels.NodeParcel.TheVariants as put;
 ghost use Rattle.kt_node.specs.Managers.{HasGuards, ShowsNode, IsSameManager, core_of};
@@ -20,13 +22,19 @@ use std::alloc::Global;
 
 impl Manager {
     /// It begins an instance of a kind, or refuses: in an instance, and a checkpoint where its object can't be saved.
-    pub fn begin(&mut self, alloc: Global, kind: Kind, able: bool) -> Result<Effects, ManagerFault>
-        ensures done { (y : NodeState) → ShowsNode self.old y →
-            IfOk result (λ e.
-            IsDone self.new e (node_after y (Begin (is_rollback_kind (Some kind)) able))) }
+    pub fn begin(
+        &mut self,
+        alloc: Global,
+        kind: Kind,
+        able: bool,
+        out: &mut Effects,
+    ) -> Result<(), ManagerFault>
+        ensures done { (y : NodeState) → ShowsNode self.old y → OnOk result
+            (IsDone self.new out.new (node_after y (Begin (is_rollback_kind (Some kind)) able))) }
         ensures refused { (y : NodeState) → ShowsNode self.old y →
             IsRefusedAs (fault_at y (Begin (is_rollback_kind (Some kind)) able)) result }
         ensures err { OnErr result (IsSameManager self.new self.old) }
+        ensures out { OnErr result (out.new ≡ out.old) }
     {
         let Some(count) = Count::new(self.begun + 1) else {
             return Err(ManagerFault::CountsSpent);
@@ -36,9 +44,9 @@ impl Manager {
             count,
         };
         let begins = self.begins(kind, able);
-        let effects = self.core.begin(alloc, &inst, kind, able)?;
+        self.core.begin(alloc, &inst, kind, able, out)?;
         self.note_begun(begins);
-        Ok(effects)
+        Ok(())
     }
 
     /// One instance more was begun, if so, and joined.
@@ -89,30 +97,39 @@ impl Manager {
         from: ProcNo,
         ask: &Ask,
         able: bool,
-    ) -> Result<Effects, Memory>
+        out: &mut Effects,
+    ) -> Result<(), Memory>
         requires { from < self.old.size }
         ensures done { (y : NodeState) → ShowsNode self.old y →
-            IfOk result (λ e. IsDone self.new e
+            OnOk result (IsDone self.new out.new
             (taking y from able (put.Ask ask.now.inst ask.now.kind ask.now.label))) }
         ensures err { OnErr result (IsSameManager self.new self.old) }
+        ensures out { OnErr result (out.new ≡ out.old) }
     {
         let was_in = self.core.in_inst().is_some();
-        let effects = self.core.take_ask(alloc, from, ask, able)?;
+        self.core.take_ask(alloc, from, ask, able, out)?;
         self.asks[from.index()] = Some(ask.inst);
         self.note_joined(was_in);
-        Ok(effects)
+        Ok(())
     }
 
     /// A reply comes: it counts where it is awaited, and the last one is followed by its own reply, or by the decision.
-    pub(super) fn take_reply(&mut self, from: ProcNo, inst: &InstName, willing: bool) -> Effects
+    pub(super) fn take_reply(
+        &mut self,
+        from: ProcNo,
+        inst: &InstName,
+        willing: bool,
+        out: &mut Effects,
+    )
         ensures { (y : NodeState) (able : Bool) → ShowsNode self.old y →
-            IsDone self.new result (taking y from able (put.Reply inst.now willing)) }
+            IsDone self.new out.new (taking y from able (put.Reply inst.now willing)) }
     {
         if !self.awaits(from, inst) {
-            return Effects::none();
+            out.clear();
+            return;
         }
         self.answered = self.answered.with(from);
-        self.core.take_reply(inst, willing)
+        self.core.take_reply(inst, willing, out);
     }
 
     /// Whether it is in this instance, and awaits a reply of a process.
@@ -129,14 +146,21 @@ impl Manager {
 
     /// A decision comes: that of its instance closes it, where another began it, all have replied, and it comes of who asked it
     /// last to join.
-    pub(super) fn take_decision(&mut self, from: ProcNo, inst: &InstName, commit: bool) -> Effects
+    pub(super) fn take_decision(
+        &mut self,
+        from: ProcNo,
+        inst: &InstName,
+        commit: bool,
+        out: &mut Effects,
+    )
         ensures { (y : NodeState) (able : Bool) → ShowsNode self.old y →
-            IsDone self.new result (taking y from able (put.Decide inst.now commit)) }
+            IsDone self.new out.new (taking y from able (put.Decide inst.now commit)) }
     {
         if !self.heeds(from, inst) {
-            return Effects::none();
+            out.clear();
+            return;
         }
-        self.core.take_decision(inst, commit)
+        self.core.take_decision(inst, commit, out);
     }
 
     /// Whether it is in this instance, which another process began, awaits nobody, and was asked last by this one to join it.

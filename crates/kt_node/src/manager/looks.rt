@@ -1,7 +1,8 @@
 //! What a step needs of the object.
 
 ghost use Rattle.std.specs.Prelude.{◌≡◌, ◌<◌, ◌&&◌, ℤ, Bool, true, is_none};
-ghost use Rattle.kt_manager.specs.Nodes.{NodeState, Send, Begin, Held, Comes};
+ghost use Rattle.kt_manager.specs.Nodes.{NodeState};
+ghost use Rattle.kt_node.specs.Inputs.{Send, Begin, Held, Comes};
 ghost use Rattle.kt_node.specs.NodeLooks.{asks_to_save, would_save};
 ghost use Rattle.kt_node.specs.Managers.{ShowsNode};
 ghost use Rattle.kt_node.specs.Faults.{stranger, parcel_fault, fault_at};

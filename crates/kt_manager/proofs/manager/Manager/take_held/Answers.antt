@@ -21,7 +21,7 @@ returns-then-not-is_up c = record {
       let down = sym i.process.up ∙ (sym c.is_up.ensures ∙ c.if-not-is_up.true) in
       done_first _ _ y from (App label body ∷ rest) (c.in-Some.ensures.some y h)
       (done_down _ _ z (receiving z from label body) (dropping z from label) down
-      (c.told.ensures _ z (shows_dropped _ c.drop_held.new.self y from rest refl i c.drop_held.ensures.held c.drop_held.ensures.kept)));
+      (c.tell.ensures.done _ z (shows_dropped _ c.drop_held.new.self y from rest refl i c.drop_held.ensures.held c.drop_held.ensures.kept)));
 }
 
 pub returns : goal.returns
@@ -40,5 +40,5 @@ returns c = record {
       done_first _ _ y from (App label body ∷ rest) first
       (done_up _ _ z (receiving z from label body) (dropping z from label) up
       (done_as _ _ (λ (b : ℤ). receiving z from label b) _ _ (to_z-of_z w64 body (search rules))
-      (c.reception.ensures _ z (shows_taken _ c.receive.new.self c.keep_held.new.self y from label _ rest c.receive.ensures.processes i (rw (to_z-of_z w64 c.in-Some.first.1 (search rules)) first) refl c.keep_held.ensures.kept c.keep_held.ensures.held notes calls))));
+      (c.tell_reception.ensures _ z (shows_taken _ c.receive.new.self c.keep_held.new.self y from label _ rest c.receive.ensures.processes i (rw (to_z-of_z w64 c.in-Some.first.1 (search rules)) first) refl c.keep_held.ensures.kept c.keep_held.ensures.held notes calls))));
 }

@@ -1,7 +1,7 @@
 use Rattle.std.proofs.Common.{◌≡◌, ◌∙◌, true, refl, sym}
 use Rattle.kt_manager.specs.Nodes.{nothing}
 use Rattle.kt_manager.specs.NodeClosing.{closing}
-use Rattle.kt_manager.specs.NodeSteps.{heeds}
+use Rattle.kt_node.specs.NodeSteps.{heeds}
 use Rattle.kt_node.proofs.Guards.{core_inside, guards_inside, guarded_on, closing_guarded, done_guarded}
 use Rattle.kt_node.proofs.manager.Manager.take_decision.Goals as goal
 
@@ -10,5 +10,5 @@ returns c = λ y able h.
     let k = c.args.inst.now in
     let g = guards_inside _ _ y c.self.view_is h in
     let here : heeds y c.args.from k ≡ true = sym (c.heeds.ensures.node y h) ∙ c.if-not-heeds.false in
-    rw here (done_guarded _ c.take_decision.result (closing k c.args.commit (nothing y)) refl (c.take_decision.ensures.done y (core_inside _ _ y refl c.self.view_is h))
+    rw here (done_guarded _ c.take_decision.new.out (closing k c.args.commit (nothing y)) refl (c.take_decision.ensures.done y (core_inside _ _ y refl c.self.view_is h))
     (guarded_on _ y _ (record { begun = g.begun; asks = g.asks; answered = g.answered }) (closing_guarded y k c.args.commit (nothing y) refl)))
