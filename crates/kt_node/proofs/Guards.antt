@@ -1,11 +1,13 @@
 -- What a manager keeps to guard itself, beside the manager that it guards.
-use Rattle.std.specs.Prelude.{◌==◌, ◌&&◌, ◌||◌, not, if◌then◌else◌, Option, Some, None, is_some, slice_index_or, replicate, slice_set}
-use Rattle.std.proofs.Common.{◌≡◌, ◌≢◌, ◌∙◌, ℕ, ℤ, zero, suc, ◌+◌, ◌<◌, Bool, true, false, List, [], ◌∷◌, length, refl, sym, ap, subst, inl, inr}
+use Rattle.std.specs.Prelude.{◌==◌, ◌&&◌, ◌||◌, not, nat_lt, if◌then◌else◌, Option, Some, None, is_none, is_some, slice_index_or, replicate, slice_set}
+use Rattle.std.proofs.Common.{◌≡◌, ◌≢◌, ◌∙◌, ℕ, ℤ, zero, suc, ◌+◌, ◌<◌, Bool, true, false, List, [], ◌∷◌, length, refl, sym, ap, subst, arith, inl, inr}
 use Rattle.std.proofs.lemmas.Bool.{cases_eq}
+use Rattle.std.proofs.lemmas.Bool.Decides.{nat_tests}
 use Rattle.std.proofs.lemmas.List.{get_or-set_same, get_or-set_other}
 use Rattle.kt_base.specs.Sets.{has}
 use Rattle.kt_base.specs.declared.words.Verb.TheVariants as verb
 use Rattle.kt_meaning.specs.Past.{at_one}
+use Rattle.kt_tables.specs.Calls.{Speaks}
 use Rattle.kt_protocol.proofs.Updates.{at_one_here, at_one_other}
 use Rattle.kt_machine.specs.CallTests.{must_take, must_roll}
 use Rattle.kt_machine.specs.SeenJoining.{no_note}
@@ -18,12 +20,15 @@ use Rattle.kt_manager.specs.declared.parcels.NodeParcel.TheVariants.{App, Ask, R
 use Rattle.kt_manager.specs.Nodes.{NodeState, Doing, nothing, is_in_rollback}
 use Rattle.kt_manager.specs.NodeMessages.{sending, receiving, arriving, holding, taking_held, failing, refusing, unable}
 use Rattle.kt_manager.specs.NodeJoining.{beginning, joining_checkpoint, joining_rollback, replying, unwilling, noting}
-use Rattle.kt_node.specs.NodeSteps.{asking}
 use Rattle.kt_manager.specs.NodeClosing.{after_checkpoint, after_rollback, closing, ending, settling}
 use Rattle.kt_manager.specs.NodeSteps.{is_one, starting, told_to_begin, asked, counting}
 use Rattle.kt_manager.specs.Turns.{told_to_send, told_to_fail, taking_message}
 use Rattle.kt_manager.specs.Managers.{ShowsManager, ManagerState as CoreState, IsSameManager as IsSameCore}
 use Rattle.kt_manager.specs.Effects.{IsDone as IsCoreDone}
+use Rattle.kt_node.specs.Inputs.{Send, Held}
+use Rattle.kt_node.specs.NodeSteps.{asking, is_step, node_after}
+use Rattle.kt_node.specs.Faults.{stranger}
+use Rattle.kt_node.specs.declared.faults.ManagerFault.TheVariants as fault
 use Rattle.kt_node.specs.Begins.{begins, begun_guards, joined_guards}
 use Rattle.kt_node.specs.Managers.{ManagerState, HasGuards, ShowsNode, IsSameManager, core_of}
 use Rattle.kt_node.specs.Effects.{IsDone}
@@ -215,3 +220,28 @@ sent_guarded y q body = one_of y y.up (sending y q body) (refusing y verb.Send D
 
 pub fail_guarded : (y : NodeState) → IsGuarded y (told_to_fail y).state
 fail_guarded y = one_of y y.up (failing y) (refusing y verb.Fail Down) (record { begun = refl; asks = λ q. refl; answered = λ q. refl }) (alike y)
+
+-- a message that is sent, where it may be
+pub done_sent : (w : ManagerState) (e : Told) (y : NodeState) (q : ℕ) (body : ℤ) → is_step y (Send q body) ≡ true → IsDone w e (told_to_send y q body) → IsDone w e (node_after y (Send q body))
+done_sent w e y q body s done = subst (λ (b : Bool). IsDone w e (if b then told_to_send y q body else nothing y)) (sym s) done
+
+pub speaks_sent : (y : NodeState) (q : ℕ) (body : ℤ) → is_step y (Send q body) ≡ true → Speaks ((node_after y (Send q body)).state.calls) → Speaks ((told_to_send y q body).state.calls)
+speaks_sent y q body s speaks = subst (λ (b : Bool). Speaks ((if b then told_to_send y q body else nothing y).state.calls)) s speaks
+
+-- one that is held, outside of a rollback
+pub done_held : (w : ManagerState) (e : Told) (y : NodeState) (q : ℕ) → is_in_rollback y ≡ false → IsDone w e (taking_held y q (y.held q)) → IsDone w e (node_after y (Held q))
+done_held w e y q s done = subst (λ (b : Bool). IsDone w e (if b then nothing y else taking_held y q (y.held q))) (sym s) done
+
+pub speaks_held : (y : NodeState) (q : ℕ) → is_in_rollback y ≡ false → Speaks ((node_after y (Held q)).state.calls) → Speaks ((taking_held y q (y.held q)).state.calls)
+speaks_held y q s speaks = subst (λ (b : Bool). Speaks ((if b then nothing y else taking_held y q (y.held q)).state.calls)) s speaks
+
+-- who is no stranger may be sent to
+pub may_send : (w : ManagerState) (y : NodeState) (q : ℕ) (body : ℤ) → w.me < w.size → ShowsNode w y → stranger y q ≡ None → is_none y.inst ≡ true → is_step y (Send q body) ≡ true
+may_send w y q body b h s n =
+    let me : nat_lt y.me y.processes ≡ true = let i = h.holds.me in let j = h.holds.processes in let k : y.me < y.processes = omega (arith, b, i, j) in grind (arith, nat_tests, k) in
+    at_tests (nat_lt q y.processes) (q == y.me) s me
+  where
+    at_tests : (a c : Bool) → (if not a then Some fault.Unknown else if c then Some fault.Itself else None) ≡ None → nat_lt y.me y.processes ≡ true → ((nat_lt y.me y.processes && a) && (is_none y.inst && not c)) ≡ true
+    at_tests true false s me = rw (me, n) refl
+    at_tests true true s me = absurd (cc (s))
+    at_tests false c s me = absurd (cc (s))

@@ -29,7 +29,7 @@ use Rattle.kt_node.specs.declared.faults.ManagerFault.{ManagerFault}
 use Rattle.kt_node.specs.Effects.{IsDone}
 use Rattle.kt_manager.specs.Effects.{put_to}
 use Rattle.kt_node.specs.Faults.{fault_at}
-use Rattle.kt_node.specs.Links.{NodeLinks, ShowsLinks, IsNodeRefusedAs}
+use Rattle.kt_node.specs.Links.{NodeLinks, ShowsLinks, IsNodeFaultAs}
 use Rattle.kt_node.specs.Reaches.{HasReaches}
 
 -- the nodes, what is on its way, the oldest first, the rows of all in the order in which they were told, and the label that
@@ -112,7 +112,7 @@ IsRefusedIn y o (Ok x) = IsTaken y o
 IsRefusedIn y o (Err fault.Unknown) = ⊥
 IsRefusedIn y o (Err fault.NothingToTake) = o ≡ None
 IsRefusedIn y o (Err fault.Memory) = Unit {0}
-IsRefusedIn y o (Err (fault.Node f)) = IsNodeRefusedAs (fault_coming y o) (Err f)
+IsRefusedIn y o (Err (fault.Node f)) = IsNodeFaultAs (fault_coming y o) f
 
 -- what tables answer for at a step
 abbrev pub IsSpeakable : NodeState → ProtocolStep → List Envelope → Type 0

@@ -95,14 +95,17 @@ IsHeldMetAs true result = result ≡ Err fault.Stale
 IsHeldMetAs false result = IsGiven result
 
 -- a call that is given to the manager is refused exactly so, but for the clock and memory
+abbrev pub IsNodeFaultAs : Option ManagerFault → NodeFault → Type 0
+IsNodeFaultAs o (fault.Manager f) = o ≡ but_memory f
+IsNodeFaultAs o fault.ClockSpent = Unit {0}
+IsNodeFaultAs o fault.Astray = ⊥
+IsNodeFaultAs o (fault.Gap n) = ⊥
+IsNodeFaultAs o fault.Leap = ⊥
+IsNodeFaultAs o fault.Stale = ⊥
+
 abbrev pub IsNodeRefusedAs : {X : Type 0} → Option ManagerFault → Result X NodeFault → Type 0
 IsNodeRefusedAs o (Ok made) = o ≡ None
-IsNodeRefusedAs o (Err (fault.Manager f)) = o ≡ but_memory f
-IsNodeRefusedAs o (Err fault.ClockSpent) = Unit {0}
-IsNodeRefusedAs o (Err fault.Astray) = ⊥
-IsNodeRefusedAs o (Err (fault.Gap n)) = ⊥
-IsNodeRefusedAs o (Err fault.Leap) = ⊥
-IsNodeRefusedAs o (Err fault.Stale) = ⊥
+IsNodeRefusedAs o (Err f) = IsNodeFaultAs o f
 
 abbrev pub IsParcelRefusedAs : Option ManagerFault → Result Taken NodeFault → Type 0
 IsParcelRefusedAs o (Ok Step) = o ≡ None

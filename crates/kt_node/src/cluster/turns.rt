@@ -25,7 +25,7 @@ pub(super) fn make_room(on_way: &mut Vec<OnWay>, rows: &mut Vec<ClockedRow>) -> 
 {
     on_way.reserve(64)?;
     rows.reserve(4)?;
-    Ok()
+    Ok(())
 }
 
 /// Puts the parcels of a process's step and tells its rows, in room made before.
@@ -162,12 +162,20 @@ fn turn(
 {
     let mut output = Output::new();
     match *next {
-        ClusterStep::Send { to, body, .. } => node.send(to, body, &mut output)?,
-        ClusterStep::Begin { kind, able, .. } => node.begin(alloc, kind, able, &mut output)?,
-        ClusterStep::Fail { .. } => node.fail(&mut output)?,
-        ClusterStep::Take { at, from, able } => return take(alloc, node, on_way, at, from, able),
+        ClusterStep::Send { to, body, .. } => {
+            node.send(to, body, &mut output)?;
+            Ok(output)
+        }
+        ClusterStep::Begin { kind, able, .. } => {
+            node.begin(alloc, kind, able, &mut output)?;
+            Ok(output)
+        }
+        ClusterStep::Fail { .. } => {
+            node.fail(&mut output)?;
+            Ok(output)
+        }
+        ClusterStep::Take { at, from, able } => take(alloc, node, on_way, at, from, able),
     }
-    Ok(output)
 }
 
 /// Who is to make a step makes it.
