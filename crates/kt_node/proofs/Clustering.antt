@@ -36,7 +36,7 @@ use Rattle.kt_manager.specs.Effects.{put_to}
 use Rattle.kt_node.specs.Links.{NodeLinks, IsSameNode}
 use Rattle.kt_node.specs.Managers.{ShowsNode}
 use Rattle.kt_node.specs.Reaches.{HasReaches}
-use Rattle.kt_manager.proofs.Messages.{shows_same}
+use Rattle.kt_node.proofs.Guards.{shows_same}
 use Rattle.kt_node.proofs.Runs.{nodes_shown}
 
 pub size_set : (nodes : List NodeLinks) (p : ℕ) (new : NodeLinks) → length (slice_set nodes p new) ≡ length nodes

@@ -27,7 +27,7 @@ use Rattle.kt_manager.specs.NodeMessages.{unable}
 use Rattle.kt_manager.specs.NodeJoining.{beginning, joining_checkpoint, joining_rollback}
 use Rattle.kt_manager.specs.NodeClosing.{settling}
 use Rattle.kt_manager.specs.NodeSteps.{starting, told_to_begin}
-use Rattle.kt_node.specs.NodeSteps.{is_step, node_after}
+use Rattle.kt_node.specs.NodeSteps.{next_name, is_step, node_after}
 use Rattle.kt_node.specs.Nets.{Net}
 use Rattle.kt_node.proofs.Naming.{IsNaming, all_given, naming_before, given_more_rows}
 use Rattle.kt_node.proofs.Told.{given}

@@ -1,6 +1,6 @@
 -- What a manager keeps to guard itself, beside the manager that it guards.
 use Rattle.std.specs.Prelude.{◌==◌, ◌&&◌, ◌||◌, not, nat_lt, if◌then◌else◌, Option, Some, None, is_none, is_some, slice_index_or, replicate, slice_set}
-use Rattle.std.proofs.Common.{◌≡◌, ◌≢◌, ◌∙◌, ℕ, ℤ, zero, suc, ◌+◌, ◌<◌, Bool, true, false, List, [], ◌∷◌, length, refl, sym, ap, subst, arith, inl, inr}
+use Rattle.std.proofs.Common.{◌≡◌, ◌≢◌, ◌∙◌, ℕ, ℤ, zero, suc, ◌+◌, ◌<◌, ◌≤◌, ◌^◌, Bool, true, false, List, [], ◌∷◌, length, refl, sym, ap, subst, arith, inl, inr}
 use Rattle.std.proofs.lemmas.Bool.{cases_eq}
 use Rattle.std.proofs.lemmas.Bool.Decides.{nat_tests}
 use Rattle.std.proofs.lemmas.List.{get_or-set_same, get_or-set_other}
@@ -9,6 +9,8 @@ use Rattle.kt_base.specs.declared.words.Verb.TheVariants as verb
 use Rattle.kt_meaning.specs.Past.{at_one}
 use Rattle.kt_tables.specs.Calls.{Speaks}
 use Rattle.kt_protocol.proofs.Updates.{at_one_here, at_one_other}
+use Rattle.kt_process.specs.ProcessStates.{ProcessState}
+use Rattle.kt_process.specs.Shown.{IsSeenAs}
 use Rattle.kt_machine.specs.CallTests.{must_take, must_roll}
 use Rattle.kt_machine.specs.SeenJoining.{no_note}
 use Rattle.kt_spacetime.specs.declared.names.InstName.{InstName}
@@ -23,14 +25,14 @@ use Rattle.kt_manager.specs.NodeJoining.{beginning, joining_checkpoint, joining_
 use Rattle.kt_manager.specs.NodeClosing.{after_checkpoint, after_rollback, closing, ending, settling}
 use Rattle.kt_manager.specs.NodeSteps.{is_one, starting, told_to_begin, asked, counting}
 use Rattle.kt_manager.specs.Turns.{told_to_send, told_to_fail, taking_message}
-use Rattle.kt_manager.specs.Managers.{ShowsManager, ManagerState as CoreState, IsSameManager as IsSameCore}
+use Rattle.kt_manager.specs.Managers.{ShowsManager, ManagerState as CoreState, IsSameManager as IsSameCore, IsSoundManager as IsSoundCore, size_of, as_parcels, process_of}
 use Rattle.kt_manager.specs.Effects.{IsDone as IsCoreDone}
 use Rattle.kt_node.specs.Inputs.{Send, Held}
 use Rattle.kt_node.specs.NodeSteps.{asking, is_step, node_after}
 use Rattle.kt_node.specs.Faults.{stranger}
 use Rattle.kt_node.specs.declared.faults.ManagerFault.TheVariants as fault
 use Rattle.kt_node.specs.Begins.{begins, begun_guards, joined_guards}
-use Rattle.kt_node.specs.Managers.{ManagerState, HasGuards, ShowsNode, IsSameManager, core_of}
+use Rattle.kt_node.specs.Managers.{ManagerState, IsSoundManager, HasGuards, ShowsNode, IsSameManager, core_of}
 use Rattle.kt_node.specs.Effects.{IsDone}
 
 pub guards_of : (w : ManagerState) (y : NodeState) → ShowsNode w y → HasGuards w y
@@ -61,6 +63,14 @@ shows_guarded w y s h g = record {
 pub done_guarded : (w : ManagerState) (e : Told) (d : Doing) → w.process.tables.processes ≡ w.size → IsCoreDone (core_of w) e d → HasGuards w d.state → IsDone w e d
 done_guarded w e d s done g = record { state = shows_guarded w d.state s done.state g; puts = done.puts; rows = done.rows; acts = done.acts }
 
+-- what is around a manager
+abbrev pub around : CoreState → ℕ → List (Option InstName) → ℕ → ManagerState
+around m begun asks answered = record { size = m.process.tables.processes; me = m.me; process = m.process; inst = m.inst; begun = begun; inbox = m.inbox; asks = asks; answered = answered }
+
+-- is sound where that is
+pub sound_around : (m : CoreState) (begun : ℕ) (asks : List (Option InstName)) (answered : ℕ) → size_of m ≤ 64 → IsSoundCore m → begun < 2 ^ 48 → IsSoundManager (around m begun asks answered)
+sound_around m begun asks answered few h b = record { few = few; me = h.me; tables = refl; begun = b; inbox = h.inbox }
+
 -- where another manager is around the same one
 pub done_core : (w : ManagerState) (m : CoreState) (e : Told) (d : Doing) → core_of w ≡ m → w.process.tables.processes ≡ w.size → IsCoreDone m e d → HasGuards w d.state → IsDone w e d
 done_core w m e d is s done g = done_guarded w e d s (subst (λ (c : CoreState). IsCoreDone c e d) (sym is) done) g
@@ -75,6 +85,22 @@ sized v w e s t = ap (λ (m : CoreState). m.process.tables.processes) e ∙ (t �
 
 pub same_core : (v w : ManagerState) → v.size ≡ w.size → v.begun ≡ w.begun → v.asks ≡ w.asks → v.answered ≡ w.answered → IsSameCore (core_of v) (core_of w) → IsSameManager v w
 same_core v w a b c d s = record { size = a; me = s.me; process = s.process; inst = s.inst; begun = b; held = s.held; kept = s.kept; asks = c; answered = d }
+
+-- but for spare room it is as it was
+pub shows_same : (v w : ManagerState) (y : NodeState) → IsSameManager v w → ShowsNode w y → ShowsNode v y
+shows_same v w y s h = record {
+  holds = record {
+    processes = s.size ∙ h.holds.processes;
+    me = s.me ∙ h.holds.me;
+    begun = s.begun ∙ h.holds.begun;
+    held = ap as_parcels s.held ∙ h.holds.held;
+    kept = ap as_parcels s.kept ∙ h.holds.kept;
+    asks = λ q. ap (λ (l : List (Option InstName)). slice_index_or l q None) s.asks ∙ h.holds.asks q;
+  };
+  process = subst (λ (x : ProcessState). IsSeenAs x (process_of y)) (sym s.process) h.process;
+  inst = s.inst ∙ h.inst;
+  answered = λ q. ap (λ (n : ℕ). has n q) s.answered ∙ h.answered q;
+}
 
 -- a state has the guards of another one
 pub record IsGuarded (old new : NodeState) : Type 0 where
@@ -118,6 +144,10 @@ begin_guarded k None y false able = at_test (able && y.up) (settled k (joining_c
     at_test true s = record { begun = s.begun; asks = s.asks; answered = s.answered }
     at_test false s = alike y
 
+-- what it has done leaves its guards, or those of who has joined where it is in an instance then
+abbrev IsLeft : NodeState → Doing → Type 0
+IsLeft y d = IsGuarded (if is_some d.state.inst then joined_guards y else y) d.state
+
 -- who has joined by an ask stays in its instance
 stays : (k : InstName) (q : ℕ) (d : Doing) → d.state.part.parent ≡ Some q → (settling k d).state ≡ d.state
 stays k q d e = at_tests (d.state.part.awaited == 0) d.state.part.parent e
@@ -128,9 +158,13 @@ stays k q d e = at_tests (d.state.part.awaited == 0) d.state.part.parent e
     at_tests false o e = refl
 
 joined : (k : InstName) (q : ℕ) (y : NodeState) (d : Doing) → d.state.part.parent ≡ Some q → d.state.inst ≡ Some k → IsGuarded (joined_guards y) d.state
-    → IsGuarded (if is_some (settling k d).state.inst then joined_guards y else y) (settling k d).state
+    → IsLeft y (settling k d)
 joined k q y d e i g = subst (λ (z : NodeState). IsGuarded (if is_some z.inst then joined_guards y else y) z) (sym (stays k q d e))
     (subst (λ (o : Option InstName). IsGuarded (if is_some o then joined_guards y else y) d.state) (sym i) g)
+
+pick : (y : NodeState) (b : Bool) (d e : Doing) → IsLeft y d → IsLeft y e → IsLeft y (if b then d else e)
+pick y true d e g h = g
+pick y false d e g h = h
 
 -- an ask
 pub ask_guarded : (o : Option InstName) (y : NodeState) (q : ℕ) (able : Bool) (k : InstName) (roll : Bool) (label : ℕ)
@@ -141,28 +175,16 @@ ask_guarded (Some name) y q able k roll label = at_test (is_one name k)
     at_test true = record { begun = refl; asks = λ q. refl; answered = λ q. refl }
     at_test false = record { begun = refl; asks = λ q. refl; answered = λ q. refl }
 ask_guarded None y q able k true label =
-    at_test (must_roll y.calls q label) (joined k q y (joining_rollback k (Some q) (at_one q (Some label) no_note) (nothing (record y { inst = None }))) refl refl (record { begun = refl; asks = λ q. refl; answered = λ q. refl }))
-  where
-    abbrev d : Doing
-    d = settling k (joining_rollback k (Some q) (at_one q (Some label) no_note) (nothing (record y { inst = None })))
-
-    at_test : (b : Bool) → IsGuarded (if is_some d.state.inst then joined_guards y else y) d.state
-        → IsGuarded (if is_some (if b then d else replying (record y { inst = None }) q k true).state.inst then joined_guards y else y) (if b then d else replying (record y { inst = None }) q k true).state
-    at_test true g = g
-    at_test false g = record { begun = refl; asks = λ q. refl; answered = λ q. refl }
+    pick y (must_roll y.calls q label) (settling k (joining_rollback k (Some q) (at_one q (Some label) no_note) (nothing (record y { inst = None })))) (replying (record y { inst = None }) q k true)
+    (joined k q y (joining_rollback k (Some q) (at_one q (Some label) no_note) (nothing (record y { inst = None }))) refl refl (record { begun = refl; asks = λ q. refl; answered = λ q. refl }))
+    (record { begun = refl; asks = λ q. refl; answered = λ q. refl })
 ask_guarded None y q able k false label =
-    at_tests (must_take y.calls q label) (able && y.up) (joined k q y (joining_checkpoint k (Some q) (nothing (record y { inst = None }))) refl refl (record { begun = refl; asks = λ q. refl; answered = λ q. refl }))
-  where
-    abbrev d : Doing
-    d = settling k (joining_checkpoint k (Some q) (nothing (record y { inst = None })))
-
-    abbrev e : Bool → Bool → Doing
-    e m u = if not m then replying (record y { inst = None }) q k true else if not u then unwilling (record y { inst = None }) q k (unable y.up) else d
-
-    at_tests : (m u : Bool) → IsGuarded (if is_some d.state.inst then joined_guards y else y) d.state → IsGuarded (if is_some (e m u).state.inst then joined_guards y else y) (e m u).state
-    at_tests true true g = g
-    at_tests true false g = record { begun = refl; asks = λ q. refl; answered = λ q. refl }
-    at_tests false u g = record { begun = refl; asks = λ q. refl; answered = λ q. refl }
+    pick y (not (must_take y.calls q label)) (replying (record y { inst = None }) q k true)
+    (if not (able && y.up) then unwilling (record y { inst = None }) q k (unable y.up) else settling k (joining_checkpoint k (Some q) (nothing (record y { inst = None }))))
+    (record { begun = refl; asks = λ q. refl; answered = λ q. refl })
+    (pick y (not (able && y.up)) (unwilling (record y { inst = None }) q k (unable y.up)) (settling k (joining_checkpoint k (Some q) (nothing (record y { inst = None }))))
+    (record { begun = refl; asks = λ q. refl; answered = λ q. refl })
+    (joined k q y (joining_checkpoint k (Some q) (nothing (record y { inst = None }))) refl refl (record { begun = refl; asks = λ q. refl; answered = λ q. refl })))
 
 -- it was asked by q last to join k
 at_ask : (l : List (Option InstName)) (q : ℕ) (k : InstName) (asks : ℕ → Option InstName) → q < length l → ((u : ℕ) → slice_index_or l u None ≡ asks u) → (u : ℕ) → slice_index_or (slice_set l q (Some k)) u None ≡ at_one q (Some k) asks u
@@ -245,3 +267,7 @@ may_send w y q body b h s n =
     at_tests true false s me = rw (me, n) refl
     at_tests true true s me = absurd (cc (s))
     at_tests false c s me = absurd (cc (s))
+
+pub none_there : (o : Option InstName) → is_some o ≡ false → is_none o ≡ true
+none_there None e = refl
+none_there (Some name) e = absurd (cc (e))

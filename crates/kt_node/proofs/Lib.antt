@@ -51,3 +51,4 @@ pub mod OwnMarks
 pub mod CallHistories
 pub mod NetHistories
 pub mod Guards
+pub mod HeldLabels

@@ -3,7 +3,10 @@
 ghost use Rattle.std.specs.Prelude.{◌≡◌, ◌<◌, ◌≤◌, ◌&&◌, ◌↔◌, not, ℕ, true, false, Some, None, IsTrue, IfOk, IfErr, IfSome, IfNone, OnOk, IsErrOf};
 ghost use Rattle.kt_manager.specs.Nodes.{NodeState, is_in_rollback};
 ghost use Rattle.kt_node.specs.Nets.{opening_net, has_some};
-ghost use Rattle.kt_node.specs.Managers.{IsSoundManager, ShowsNode};
+ghost use Rattle.kt_manager.specs.Messages.{has_some as has_item};
+ghost use Rattle.kt_manager.specs.Inboxes.{held_of};
+ghost use Rattle.kt_manager.specs.Managers.{IsSoundManager as IsSoundCore, size_of, is_rolling};
+ghost use Rattle.kt_node.specs.Managers.{IsSoundManager, ShowsNode, core_of};
 ghost use Rattle.kt_node.specs.ManagerParts.{state_of};
 ghost use Rattle.kt_node.specs.OwnParts.{HasOwnPart};
 ghost use Rattle.kt_node.specs.Faults.{stranger};
@@ -166,14 +169,16 @@ impl Manager {
 
     /// Whether it is in a rollback.
     pub fn is_in_rollback(&self) -> bool
-        ensures { (y : NodeState) → ShowsNode self.now y → result ≡ is_in_rollback y }
+        ensures state { result ≡ is_rolling (core_of self.now) }
+        ensures node { (y : NodeState) → ShowsNode self.now y → result ≡ is_in_rollback y }
     {
         self.core.is_in_rollback()
     }
 
     /// Whether it holds something of a process.
     fn holds(&self, from: ProcNo) -> bool
-        ensures { (y : NodeState) → ShowsNode self.now y → result ≡ has_some (y.held from) }
+        ensures state { result ≡ has_item (held_of self.now.inbox from) }
+        ensures node { (y : NodeState) → ShowsNode self.now y → result ≡ has_some (y.held from) }
     {
         self.core.holds(from)
     }
@@ -217,4 +222,13 @@ impl Manager {
         }
         Ok(())
     }
+}
+
+/// A manager that is guarded is sound, and of at most 64 processes.
+fn sound(core: &Core)
+    ensures few { size_of core.now ≤ 64 }
+    ensures sound { IsSoundCore core.now }
+{
+    let _size = core.size();
+    let _inbox = core.inbox();
 }

@@ -84,10 +84,13 @@ impl Node {
         ensures { result ≡ held_label self.now from place }
     {
         let inbox = self.manager().inbox();
-        if place >= self.held_count(from) {
+        let held = self.held_count(from);
+        if place >= held {
             return 0;
         }
-        match inbox.get(from, inbox.kept_count(from) + place) {
+        let kept = inbox.len(from) - held;
+        let behind = kept + place;
+        match inbox.get(from, behind) {
             Some(item) => item.label.get(),
             None => 0,
         }

@@ -13,7 +13,7 @@ ghost use Rattle.kt_node.specs.Effects.{IsDone};
 ghost use Rattle.kt_node.specs.Faults.{fault_at, IsRefusedAs};
 ghost use Rattle.kt_node.specs.Begins.{begins, begun_guards, joined_guards};
 
-use super::Manager;
+use super::{Manager, sound};
 use crate::faults::ManagerFault;
 use kt_base::{Kind, Memory, ProcNo, ProcSet};
 use kt_manager::{Ask, Effects, is_one};
@@ -44,7 +44,9 @@ impl Manager {
             count,
         };
         let begins = self.begins(kind, able);
-        self.core.begin(alloc, &inst, kind, able, out)?;
+        let begun = self.core.begin(alloc, &inst, kind, able, out);
+        sound(&self.core);
+        begun?;
         self.note_begun(begins);
         Ok(())
     }
@@ -107,7 +109,9 @@ impl Manager {
         ensures out { OnErr result (out.new ≡ out.old) }
     {
         let was_in = self.core.in_inst().is_some();
-        self.core.take_ask(alloc, from, ask, able, out)?;
+        let taken = self.core.take_ask(alloc, from, ask, able, out);
+        sound(&self.core);
+        taken?;
         self.asks[from.index()] = Some(ask.inst);
         self.note_joined(was_in);
         Ok(())
@@ -130,6 +134,7 @@ impl Manager {
         }
         self.answered = self.answered.with(from);
         self.core.take_reply(inst, willing, out);
+        sound(&self.core);
     }
 
     /// Whether it is in this instance, and awaits a reply of a process.
@@ -161,6 +166,7 @@ impl Manager {
             return;
         }
         self.core.take_decision(inst, commit, out);
+        sound(&self.core);
     }
 
     /// Whether it is in this instance, which another process began, awaits nobody, and was asked last by this one to join it.

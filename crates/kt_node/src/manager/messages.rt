@@ -14,7 +14,7 @@ ghost use Rattle.kt_node.specs.Managers.{ShowsNode, IsSameManager, core_of};
 ghost use Rattle.kt_node.specs.Effects.{IsDone};
 ghost use Rattle.kt_node.specs.Faults.{fault_at, first_held, wants_room, wants_memory, IsRefusedAs};
 
-use super::Manager;
+use super::{Manager, sound};
 use crate::faults::ManagerFault;
 use kt_base::{Memory, ProcNo};
 use kt_manager::Effects;
@@ -42,6 +42,7 @@ impl Manager {
             return Err(ManagerFault::LabelsSpent);
         }
         self.core.send(to, body, out);
+        sound(&self.core);
         Ok(())
     }
 
@@ -51,6 +52,7 @@ impl Manager {
             IsDone self.new out.new (node_after y Fail) }
     {
         self.core.fail(out);
+        sound(&self.core);
     }
 
     /// It takes the first message that it holds of a process, as one that comes.
@@ -70,6 +72,7 @@ impl Manager {
             return Err(ManagerFault::HoldsNone);
         }
         self.core.take_held(from, out);
+        sound(&self.core);
         Ok(())
     }
 
@@ -104,6 +107,8 @@ impl Manager {
         ensures memory { (y : NodeState) → ShowsNode self.old y →
             OnErr result (wants_room y from (sent.App label body) ≡ true) }
     {
-        self.core.take_message(from, label, body, out)
+        let taken = self.core.take_message(from, label, body, out);
+        sound(&self.core);
+        taken
     }
 }

@@ -4,7 +4,7 @@ use Rattle.kt_node.proofs.manager.Manager.new.Goals as goal
 
 pub returns : goal.returns
 returns c =
-    let h = c.in_ok-core.ensures in
+    let h = c.in_ok-core.ensures.shows in
     record {
       shows = record {
         holds = record { processes = h.holds.processes; me = h.holds.me; begun = refl; held = h.holds.held; kept = h.holds.kept; asks = λ q. none_each 64 q };

@@ -1,4 +1,4 @@
-use Rattle.std.proofs.Common.{ℤ, sym, subst, rules}
+use Rattle.std.proofs.Common.{◌≡◌, ◌∙◌, ℤ, true, false, sym, subst, rules}
 use Rattle.std.specs.Int.{w64}
 use Rattle.std.proofs.lemmas.Int.{to_z-of_z}
 use Rattle.kt_manager.specs.declared.parcels.NodeParcel.TheVariants as put
@@ -8,6 +8,13 @@ use Rattle.kt_node.specs.NodeSteps.{taking}
 use Rattle.kt_node.specs.Effects.{IsDone}
 use Rattle.kt_node.specs.Links.{IsSpoken}
 use Rattle.kt_node.proofs.manager.Manager.take.Goals as goal
+use Rattle.kt_node.proofs.manager.Manager.take.Goals.{else-not-is_in_rollback-via-then-not-is_in_rollback+else-holds, else-not-is_in_rollback-via-else-not-is_in_rollback}
+
+pub take_message-requires-clause-first : goal.take_message-requires-clause-first
+take_message-requires-clause-first c = λ free. elim c.else-not-is_in_rollback.branch [
+  | else-not-is_in_rollback-via-then-not-is_in_rollback+else-holds w ↦ sym w.holds.ensures.state ∙ w.if-holds.false
+  | else-not-is_in_rollback-via-else-not-is_in_rollback w ↦ (let e : true ≡ false = sym w.if-not-is_in_rollback.false ∙ (c.is_in_rollback.ensures.state ∙ free) in absurd (cc (e)))
+]
 
 pub returns-in_ok-take_message-in-App-clause-done : goal.returns-in_ok-take_message-in-App-clause-done
 returns-in_ok-take_message-in-App-clause-done c = λ y h speaks.
