@@ -6,6 +6,7 @@ use Rattle.std.proofs.lemmas.List.{length-map}
 use Rattle.std.proofs.lemmas.Option.{slice_get-map}
 use Rattle.kt_manager.specs.declared.received.Item.{Item}
 use Rattle.kt_manager.specs.declared.parcels.NodeParcel.{NodeParcel}
+use Rattle.kt_manager.specs.Inboxes.{InboxLists, held_of}
 use Rattle.kt_manager.specs.Managers.{as_parcel}
 use Rattle.kt_node.specs.Meetings.{label_of}
 
@@ -17,5 +18,6 @@ pub label_is : (kept held : List Item) (i n : ℕ) (o : Option Item) → n ≡ l
 label_is kept held i n o e f =
     ap label_of (ap (option_map as_parcel) (f ∙ (ap (λ (m : ℕ). slice_get (kept ++ held) (m + i)) e ∙ behind kept held i)) ∙ sym (slice_get-map as_parcel held i))
 
-pub held_size : (held : List Item) → length (map as_parcel held) ≡ length held
-held_size held = length-map held as_parcel
+-- how many are held, in the same inbox
+pub held_is : (a b : InboxLists) (q n : ℕ) → a ≡ b → n ≡ length (map as_parcel (held_of b q)) → n ≡ length (held_of a q)
+held_is a b q n e h = h ∙ (length-map (held_of b q) as_parcel ∙ ap (λ (x : InboxLists). length (held_of x q)) (sym e))
