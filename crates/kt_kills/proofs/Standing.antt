@@ -4,8 +4,8 @@ use Rattle.std.specs.Prelude.{◌==◌, if◌then◌else◌}
 use Rattle.kt_meaning.specs.Past.{at_one}
 use Rattle.kt_machine.specs.Acts.{stepper}
 use Rattle.kt_protocol.specs.States as protocol
-use Rattle.kt_node.specs.Nodes.{Input}
-use Rattle.kt_node.specs.NodeSteps.{node_after}
+use Rattle.kt_manager.specs.Nodes.{Input}
+use Rattle.kt_manager.specs.NodeSteps.{node_after}
 use Rattle.kt_node.specs.Clocks.{Envelope, input_at, front_input}
 use Rattle.kt_kills.specs.Writing.{is_protocol}
 use Rattle.kt_kills.specs.KilledNets.{Holdings, KilledNet, KillEvent, Does, Brought, Writes, Killed, Back, having_done, having, written, stepping, brought, sending_one, sending_again, coming_back, happens, killed_run, opening_killed}

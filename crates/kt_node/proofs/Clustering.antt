@@ -3,7 +3,7 @@ use Rattle.std.proofs.Common.{◌≡◌, ◌≢◌, ◌∙◌, ℕ, ◌+◌, ◌
 use Rattle.std.specs.Prelude.{◌==◌, ◌&&◌, if◌then◌else◌, Option, Result, Ok, Err, IsErr, IsErrAnd, slice_index, slice_index_or, slice_set}
 use Rattle.std.proofs.lemmas.Option.{get_or_from_slice_get}
 use Rattle.kt_meaning.proofs.Items.{item_there}
-use Rattle.kt_system.specs.ShownActs.{acts_shown}
+use Rattle.kt_manager.specs.ShownActs.{acts_shown}
 use Rattle.std.proofs.Math.Seq.{get_or-append_seam}
 use Rattle.std.proofs.lemmas.Bool.{cases_eq}
 use Rattle.std.proofs.lemmas.List.{get_or-set_same, get_or-set_other, get_or_append_left, length-set, length_push}
@@ -17,12 +17,12 @@ use Rattle.kt_spacetime.specs.declared.event.Event.{Event}
 use Rattle.kt_spacetime.specs.declared.named_rows.NamedEvent.{NamedEvent}
 use Rattle.kt_spacetime.specs.declared.named_rows.NamedRow.{NamedRow}
 use Rattle.kt_tables.specs.Calls.{Speaks}
-use Rattle.kt_node.specs.Nodes.{NodeState, Input}
-use Rattle.kt_node.specs.NodeSteps.{node_after}
+use Rattle.kt_manager.specs.Nodes.{NodeState, Input}
+use Rattle.kt_manager.specs.NodeSteps.{node_after}
 use Rattle.kt_node.specs.Nets.{Net, net_step, net_run, opening_net}
 use Rattle.kt_node.specs.Clocks.{Envelope, ClockedNet, envelope, clocked_row, source_of, input_at, clock_after, left_after, clocked_input, clocked_doing, at_input, clocked_step, clocked_run, opening_clocked, acts_at, clocked_acts}
 use Rattle.kt_node.specs.Erasing.{rows_from}
-use Rattle.kt_node.specs.declared.parcels.NodeParcel.{NodeParcel}
+use Rattle.kt_manager.specs.declared.parcels.NodeParcel.{NodeParcel}
 use Rattle.kt_spacetime.specs.declared.named_rows.ClockedRow.{ClockedRow}
 use Rattle.kt_node.proofs.Unclocked.{step_unclocked, run_unclocked, rows_unclocked}
 use Rattle.kt_node.specs.declared.cluster.ClusterFault.{ClusterFault}
@@ -31,11 +31,11 @@ use Rattle.kt_node.specs.declared.cluster.OnWay.{OnWay}
 use Rattle.kt_node.specs.declared.node.Output.{Output}
 use Rattle.kt_node.specs.declared.reach.Reaches.{Reaches}
 use Rattle.kt_node.specs.Clusters.{ClusterState, link, ShowsClocked, ShowsNet, net_after, IsRun, ArePromised, AreFresh, coming, coming_to, IsRefusedIn, IsSpent, IsSpentIn, IsSpentAs, doing_at, IsPutOut, HasNextNumbers, IsSpeakable, IsTurn}
-use Rattle.kt_node.specs.Effects.{put_to, rows_told}
+use Rattle.kt_manager.specs.Effects.{put_to, rows_told}
 use Rattle.kt_node.specs.Links.{NodeLinks, IsSameNode}
 use Rattle.kt_node.specs.Managers.{ShowsNode}
 use Rattle.kt_node.specs.Reaches.{HasReaches}
-use Rattle.kt_node.proofs.Messages.{shows_same}
+use Rattle.kt_manager.proofs.Messages.{shows_same}
 use Rattle.kt_node.proofs.Runs.{nodes_shown}
 
 pub size_set : (nodes : List NodeLinks) (p : ℕ) (new : NodeLinks) → length (slice_set nodes p new) ≡ length nodes

@@ -2,20 +2,21 @@
 use Rattle.std.proofs.Common.{◌≡◌, ◌≢◌, ◌∙◌, ℕ, zero, suc, ◌+◌, ◌<◌, ◌≤◌, true, false, List, length, refl, arith, sym, ap, ap₂, subst, ◌++◌, inl, inr}
 use Rattle.std.specs.Prelude.{max, replicate, slice_index, slice_set, Option, Some, None, is_some}
 use Rattle.std.specs.Option.{option_to_list}
-use Rattle.kt_node.specs.declared.parcels.NodeParcel.{NodeParcel}
+use Rattle.kt_manager.specs.declared.parcels.NodeParcel.{NodeParcel}
 use Rattle.std.proofs.lemmas.Bool.{cases_eq}
 use Rattle.std.proofs.lemmas.List.{get_or-set_same, get_or-set_other, length-set}
 use Rattle.kt_meaning.specs.Past.{at_one}
 use Rattle.kt_protocol.proofs.Updates.{at_one_here, at_one_other}
 use Rattle.kt_tables.specs.Calls.{Call}
-use Rattle.kt_node.specs.Nodes.{NodeState, Input}
-use Rattle.kt_node.specs.NodeSteps.{node_after}
+use Rattle.kt_manager.specs.Nodes.{NodeState, Input}
+use Rattle.kt_manager.specs.NodeSteps.{node_after}
 use Rattle.kt_node.specs.NodeHistories.{calls_told}
 use Rattle.kt_node.proofs.NodeCalls.{step_tells}
-use Rattle.kt_node.specs.declared.effects.Effects.{Effects}
+use Rattle.kt_manager.specs.declared.effects.Effects.{Effects}
 use Rattle.kt_node.specs.declared.node.Output.{Output}
 use Rattle.kt_node.specs.declared.reach.Reaches.{Reaches}
-use Rattle.kt_node.specs.Effects.{IsDone, put_to, calls_of}
+use Rattle.kt_node.specs.Effects.{IsDone, calls_of}
+use Rattle.kt_manager.specs.Effects.{put_to}
 use Rattle.kt_node.specs.Reaches.{HasReaches}
 use Rattle.kt_node.specs.Links.{NodeLinks, IsStep}
 use Rattle.kt_node.specs.Managers.{ManagerState}

@@ -7,10 +7,10 @@ use Rattle.kt_node.specs.declared.node.Envelope.{Envelope}
 use Rattle.kt_node.specs.declared.node.NodeFault.{NodeFault}
 use Rattle.kt_node.specs.declared.node.NodeFault.TheVariants as fault
 use Rattle.kt_node.specs.declared.node.Output.{Output}
-use Rattle.kt_node.specs.declared.parcels.NodeParcel.{NodeParcel}
-use Rattle.kt_node.specs.declared.parcels.NodeParcel.TheVariants.{App, Ask, Reply, Decide}
-use Rattle.kt_node.specs.Nodes.{NodeState, Held}
-use Rattle.kt_node.specs.NodeSteps.{node_after}
+use Rattle.kt_manager.specs.declared.parcels.NodeParcel.{NodeParcel}
+use Rattle.kt_manager.specs.declared.parcels.NodeParcel.TheVariants.{App, Ask, Reply, Decide}
+use Rattle.kt_manager.specs.Nodes.{NodeState, Held}
+use Rattle.kt_manager.specs.NodeSteps.{node_after}
 use Rattle.kt_node.specs.Faults.{fault_at}
 use Rattle.kt_node.specs.Links.{NodeLinks, ShowsLinks, IsSpoken, IsNodeRefusedAs}
 use Rattle.kt_node.specs.Meetings.{is_leap, is_stale, is_stale_held, last_label, meeting_of, next_number, received_label}

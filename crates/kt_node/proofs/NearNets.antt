@@ -6,10 +6,10 @@ use Rattle.kt_protocol.proofs.Updates.{at_one_all}
 use Rattle.kt_machine.specs.Acts.{stepper}
 use Rattle.kt_node.specs.declared.node.Envelope.{Envelope as NodeEnvelope}
 use Rattle.kt_node.specs.declared.node.NodeFault.TheVariants as fault
-use Rattle.kt_node.specs.declared.parcels.NodeParcel.{NodeParcel}
-use Rattle.kt_node.specs.declared.parcels.NodeParcel.TheVariants.{App, Ask, Reply, Decide}
-use Rattle.kt_node.specs.Nodes.{Input, Send, Begin, Fail, Held, Comes}
-use Rattle.kt_node.specs.NodeSteps.{node_after}
+use Rattle.kt_manager.specs.declared.parcels.NodeParcel.{NodeParcel}
+use Rattle.kt_manager.specs.declared.parcels.NodeParcel.TheVariants.{App, Ask, Reply, Decide}
+use Rattle.kt_manager.specs.Nodes.{Input, Send, Begin, Fail, Held, Comes}
+use Rattle.kt_manager.specs.NodeSteps.{node_after}
 use Rattle.kt_node.specs.Clocks.{Envelope, envelope, source_of, front_input, input_at, clock_after}
 use Rattle.kt_node.specs.Links.{NodeLinks}
 use Rattle.kt_node.specs.Meetings.{far, is_far, is_far_message, is_leap, is_stale, last_label, meeting_of, next_number}

@@ -8,10 +8,10 @@ use Rattle.kt_protocol.proofs.Updates.{at_one_here, at_one_other}
 use Rattle.kt_machine.specs.Acts.{stepper}
 use Rattle.kt_node.specs.declared.node.Output.{Output}
 use Rattle.kt_node.specs.declared.node.Taken.TheVariants.{Step, Again}
-use Rattle.kt_node.specs.declared.parcels.NodeParcel.{NodeParcel}
-use Rattle.kt_node.specs.Nodes.{NodeState, Input, is_in_rollback}
-use Rattle.kt_node.specs.Nodes as input
-use Rattle.kt_node.specs.NodeSteps.{is_step, node_after}
+use Rattle.kt_manager.specs.declared.parcels.NodeParcel.{NodeParcel}
+use Rattle.kt_manager.specs.Nodes.{NodeState, Input, is_in_rollback}
+use Rattle.kt_manager.specs.Nodes as input
+use Rattle.kt_manager.specs.NodeSteps.{is_step, node_after}
 use Rattle.kt_node.specs.Nets.{has_some}
 use Rattle.kt_node.specs.declared.faults.ManagerFault.{ManagerFault}
 use Rattle.kt_node.specs.declared.faults.ManagerFault.TheVariants as fault

@@ -9,10 +9,10 @@ use Rattle.std.proofs.lemmas.List.{append-nil, map-append, take-append-drop, tak
 use Rattle.kt_protocol.proofs.Updates.{is_same, is_other}
 use Rattle.kt_spacetime.specs.declared.named_rows.NamedEvent.{NamedEvent}
 use Rattle.kt_node.specs.Clocks.{Envelope, envelope, clocked_row}
-use Rattle.kt_node.specs.declared.parcels.NodeParcel.{NodeParcel}
+use Rattle.kt_manager.specs.declared.parcels.NodeParcel.{NodeParcel}
 use Rattle.kt_node.specs.declared.cluster.OnWay.{OnWay}
 use Rattle.kt_node.specs.Clusters.{link, IsFront}
-use Rattle.kt_node.specs.Effects.{rows_told}
+use Rattle.kt_manager.specs.Effects.{rows_told}
 use Rattle.kt_node.proofs.Reaching.{rows_told-append}
 
 with_front : (b : Bool) (e : Envelope) (whole front rest : List Envelope) → whole ≡ front ++ rest → (if b then e ∷ whole else whole) ≡ (if b then e ∷ front else front) ++ rest

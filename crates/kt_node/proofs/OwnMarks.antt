@@ -9,15 +9,16 @@ use Rattle.kt_machine.specs.Seen.{SeenPart}
 use Rattle.kt_machine.specs.SeenJoining.{no_note, part_after_ask}
 use Rattle.kt_process.specs.Shown.{part_shown}
 use Rattle.kt_spacetime.specs.declared.names.InstName.{InstName}
-use Rattle.kt_node.specs.declared.parcels.NodeParcel.{NodeParcel}
-use Rattle.kt_node.specs.declared.parcels.NodeParcel.TheVariants.{App, Ask, Reply, Decide}
-use Rattle.kt_node.specs.Nodes.{NodeLists, NodeState, Input, Send, Begin, Fail, Held, Comes, Doing, nothing, is_in_rollback}
-use Rattle.kt_node.specs.NodeMessages.{arriving, taking_held}
-use Rattle.kt_node.specs.NodeJoining.{next_name, beginning, joining_checkpoint, joining_rollback, asking}
-use Rattle.kt_node.specs.NodeClosing.{after_checkpoint, after_rollback, ending, settling}
-use Rattle.kt_node.specs.NodeSteps.{is_one, told_to_begin, asked, counting, taking, is_step, node_after}
+use Rattle.kt_manager.specs.declared.parcels.NodeParcel.{NodeParcel}
+use Rattle.kt_manager.specs.declared.parcels.NodeParcel.TheVariants.{App, Ask, Reply, Decide}
+use Rattle.kt_manager.specs.Nodes.{NodeLists, NodeState, Input, Send, Begin, Fail, Held, Comes, Doing, nothing, is_in_rollback}
+use Rattle.kt_manager.specs.NodeMessages.{arriving, taking_held}
+use Rattle.kt_manager.specs.NodeJoining.{next_name, beginning, joining_checkpoint, joining_rollback, asking}
+use Rattle.kt_manager.specs.NodeClosing.{after_checkpoint, after_rollback, ending, settling}
+use Rattle.kt_manager.specs.NodeSteps.{is_one, told_to_begin, asked, counting, taking, is_step, node_after}
 use Rattle.kt_node.specs.Nets.{opening_net}
-use Rattle.kt_node.specs.Managers.{ManagerState, ShowsNode, no_name, number_in}
+use Rattle.kt_node.specs.Managers.{ManagerState, ShowsNode, no_name}
+use Rattle.kt_manager.specs.Managers.{number_in}
 use Rattle.kt_node.specs.Erasing.{erased_parcel}
 use Rattle.kt_node.specs.OwnParts.{HasOwnPart, HasOwnMarks}
 
@@ -64,10 +65,10 @@ held_marks y q (Ask k kind label ∷ rest) h = h
 held_marks y q (Reply k w ∷ rest) h = h
 held_marks y q (Decide k c ∷ rest) h = h
 
-begin_marks : (o : Option InstName) (y : NodeState) (roll able : Bool) → HasOwnMarks y → HasOwnMarks (told_to_begin o y roll able).state
+begin_marks : (o : Option InstName) (y : NodeState) (roll able : Bool) → HasOwnMarks y → HasOwnMarks (told_to_begin (next_name y) o y roll able).state
 begin_marks (Some name) y roll able h = h
-begin_marks None y true able h = rolling_marks (next_name y) None no_note (beginning y true)
-begin_marks None y false able h = one_of (able && y.up) _ _ (saving_marks (next_name y) None (beginning y false)) h
+begin_marks None y true able h = rolling_marks (next_name y) None no_note (beginning (next_name y) y true)
+begin_marks None y false able h = one_of (able && y.up) _ _ (saving_marks (next_name y) None (beginning (next_name y) y false)) h
 
 ask_marks : (o : Option InstName) (y : NodeState) (q : ℕ) (able : Bool) (k : InstName) (roll : Bool) (label : ℕ) → HasOwnMarks y → HasOwnMarks (asked o y q able k roll label).state
 ask_marks (Some name) y q able k roll label h =

@@ -9,7 +9,7 @@ use Rattle.kt_meaning.specs.Past.{at_one}
 use Rattle.kt_plan.specs.declared.steps.Act.{Act as AnsweredAct}
 use Rattle.kt_protocol.proofs.Updates.{at_one_here, at_one_other, is_same, is_other}
 use Rattle.kt_spacetime.specs.declared.named_rows.NamedEvent.{NamedEvent}
-use Rattle.kt_system.specs.ShownActs.{act_shown, acts_shown}
+use Rattle.kt_manager.specs.ShownActs.{act_shown, acts_shown}
 use Rattle.kt_tables.specs.Calls.{Call, sent, received, on_tentative, on_commit, on_abort, on_rollback, receiveds}
 use Rattle.kt_tables.specs.Labels.{greatest}
 use Rattle.kt_tables.proofs.CallParts.{receiveds-append}
@@ -17,7 +17,7 @@ use Rattle.kt_tables.proofs.LabelLists.{greatest-append}
 use Rattle.kt_node.specs.NodeHistories.{Histories, no_history, histories_after, histories, sent_labels, call_of_row, call_of_act}
 use Rattle.kt_node.specs.declared.reach.Reach.{Reach}
 use Rattle.kt_node.specs.declared.reach.Reaches.{Reaches}
-use Rattle.kt_node.specs.Effects.{rows_told}
+use Rattle.kt_manager.specs.Effects.{rows_told}
 use Rattle.kt_node.specs.Reaches.{IsReach, HasReaches}
 use Rattle.kt_node.proofs.Counts.{set_each}
 

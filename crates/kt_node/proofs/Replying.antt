@@ -15,14 +15,15 @@ use Rattle.kt_process.specs.declared.side.Side.TheVariants as side
 use Rattle.kt_process.specs.Shown.{IsSeenAs, part_shown, counted_as}
 use Rattle.kt_machine.specs.Seen.{SeenPart, SeenProcess}
 use Rattle.kt_spacetime.specs.declared.names.InstName.{InstName}
-use Rattle.kt_node.specs.declared.parcels.NodeParcel.TheVariants as put
-use Rattle.kt_node.specs.Nodes.{NodeState, nothing}
-use Rattle.kt_node.specs.NodeClosing.{closing, settling}
-use Rattle.kt_node.specs.declared.effects.Effects.{Effects}
+use Rattle.kt_manager.specs.declared.parcels.NodeParcel.TheVariants as put
+use Rattle.kt_manager.specs.Nodes.{NodeState, nothing}
+use Rattle.kt_manager.specs.NodeClosing.{closing, settling}
+use Rattle.kt_manager.specs.declared.effects.Effects.{Effects}
 use Rattle.kt_node.specs.Effects.{IsDone}
-use Rattle.kt_node.specs.NodeSteps.{is_in, awaits, heeds, counting, taking}
-use Rattle.kt_node.specs.Managers.{ManagerState, ShowsNode, process_of}
-use Rattle.kt_node.specs.Turns.{gone_on}
+use Rattle.kt_manager.specs.NodeSteps.{is_in, awaits, heeds, counting, taking}
+use Rattle.kt_node.specs.Managers.{ManagerState, ShowsNode}
+use Rattle.kt_manager.specs.Managers.{process_of}
+use Rattle.kt_manager.specs.Turns.{gone_on}
 
 -- who awaits a reply of q: it is in this instance, awaits some, asked q, and has no reply of it
 pub await_facts : (y : NodeState) (q : ℕ) (k : InstName) → awaits y q k ≡ true → (is_in y.inst k ≡ true) × ((y.part.awaited == 0) ≡ false)

@@ -8,8 +8,8 @@ use Rattle.kt_protocol.proofs.Updates.{at_one_here}
 use Rattle.kt_protocol.specs.States.{ProtocolStep}
 use Rattle.kt_machine.specs.Acts.{stepper}
 use Rattle.kt_spacetime.specs.declared.named_rows.NamedEvent.{NamedEvent}
-use Rattle.kt_node.specs.Nodes.{Input}
-use Rattle.kt_node.specs.NodeSteps.{node_after}
+use Rattle.kt_manager.specs.Nodes.{Input}
+use Rattle.kt_manager.specs.NodeSteps.{node_after}
 use Rattle.kt_spacetime.specs.declared.named_rows.ClockedRow.{ClockedRow}
 use Rattle.kt_spacetime.specs.ClockedRows.{rows_of}
 use Rattle.kt_node.specs.Clocks.{ClockedNet, clocked_row, source_of, input_at, clocked_doing, at_input, clocked_step, clocked_run, opening_clocked_from, AreByClock}

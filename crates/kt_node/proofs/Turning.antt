@@ -6,7 +6,7 @@ use Rattle.std.proofs.lemmas.Bool.{cases_eq}
 use Rattle.kt_protocol.specs.States.{ProtocolStep, Take}
 use Rattle.kt_protocol.proofs.Updates.{is_other}
 use Rattle.kt_machine.specs.Acts.{stepper}
-use Rattle.kt_node.specs.Nodes.{NodeState, Input, Held, Comes, is_in_rollback}
+use Rattle.kt_manager.specs.Nodes.{NodeState, Input, Held, Comes, is_in_rollback}
 use Rattle.kt_node.specs.Nets.{has_some}
 use Rattle.kt_node.specs.Clocks.{Envelope, envelope, source_of, front_input, input_at, clock_after, left_after}
 use Rattle.kt_node.specs.declared.cluster.OnWay.{OnWay}

@@ -7,11 +7,11 @@ use Rattle.kt_process.specs.declared.side.Side.{Side}
 use Rattle.kt_process.specs.declared.side.Side.TheVariants as side
 use Rattle.kt_process.specs.Shown.{IsSeenAs, part_shown}
 use Rattle.kt_spacetime.specs.declared.names.InstName.{InstName}
-use Rattle.kt_node.specs.declared.parcels.NodeParcel.TheVariants as put
-use Rattle.kt_node.specs.Nodes.{NodeState, is_in_rollback}
-use Rattle.kt_node.specs.NodeSteps.{is_in, awaits, heeds}
+use Rattle.kt_manager.specs.declared.parcels.NodeParcel.TheVariants as put
+use Rattle.kt_manager.specs.Nodes.{NodeState, is_in_rollback}
+use Rattle.kt_manager.specs.NodeSteps.{is_in, awaits, heeds}
 use Rattle.kt_node.specs.Faults.{wants_room}
-use Rattle.kt_node.specs.Managers.{process_of}
+use Rattle.kt_manager.specs.Managers.{process_of}
 use Rattle.kt_node.proofs.Replying.{await_facts, heed_facts}
 
 pub on_err : {X E P : Type 0} (r : Result X E) → P → OnErr r P

@@ -8,10 +8,10 @@ use Rattle.kt_protocol.specs.States as protocol
 use Rattle.kt_machine.specs.Acts.{stepper}
 use Rattle.kt_spacetime.specs.declared.event.Event.{Event}
 use Rattle.kt_tables.specs.Calls.{Speaks}
-use Rattle.kt_system.specs.ShownActs.{acts_shown}
-use Rattle.kt_node.specs.Nodes.{NodeState, Input, Doing, nothing, is_in_rollback}
-use Rattle.kt_node.specs.Nodes as input
-use Rattle.kt_node.specs.NodeSteps.{node_after}
+use Rattle.kt_manager.specs.ShownActs.{acts_shown}
+use Rattle.kt_manager.specs.Nodes.{NodeState, Input, Doing, nothing, is_in_rollback}
+use Rattle.kt_manager.specs.Nodes as input
+use Rattle.kt_manager.specs.NodeSteps.{node_after}
 use Rattle.kt_node.specs.Nets.{opening_net, has_some}
 use Rattle.kt_node.specs.Clocks.{Envelope, ClockedNet, envelope, source_of, front_input, input_at, clock_after, left_after, clocked_input, clocked_run, opening_clocked}
 use Rattle.kt_node.specs.Erasing.{rows_from}
@@ -25,7 +25,8 @@ use Rattle.kt_node.specs.declared.node.NodeFault.{NodeFault}
 use Rattle.kt_node.specs.declared.node.NodeFault.TheVariants as node_fault
 use Rattle.kt_node.specs.declared.node.Output.{Output}
 use Rattle.kt_node.specs.declared.faults.ManagerFault.{ManagerFault}
-use Rattle.kt_node.specs.Effects.{IsDone, put_to, rows_told}
+use Rattle.kt_node.specs.Effects.{IsDone}
+use Rattle.kt_manager.specs.Effects.{put_to, rows_told}
 use Rattle.kt_node.specs.Faults.{fault_at}
 use Rattle.kt_node.specs.Links.{NodeLinks, ShowsLinks, IsNodeRefusedAs}
 use Rattle.kt_node.specs.Reaches.{HasReaches}

@@ -2,10 +2,10 @@
 use Rattle.std.specs.Prelude.{◌≡◌, ◌+◌, ◌-◌, ◌^◌, ◌<◌, ◌≤◌, ℕ, max, Bool, true, false, Option, None, Result, Ok, Err, List, length, slice_index}
 use Rattle.kt_meaning.specs.Past.{at_one}
 use Rattle.kt_tables.specs.Calls.{Speaks}
-use Rattle.kt_node.specs.Nodes.{NodeState, Input}
-use Rattle.kt_node.specs.NodeSteps.{node_after, taking}
-use Rattle.kt_node.specs.declared.parcels.NodeParcel.{NodeParcel}
-use Rattle.kt_node.specs.declared.parcels.NodeParcel.TheVariants.{App, Ask, Reply, Decide}
+use Rattle.kt_manager.specs.Nodes.{NodeState, Input}
+use Rattle.kt_manager.specs.NodeSteps.{node_after, taking}
+use Rattle.kt_manager.specs.declared.parcels.NodeParcel.{NodeParcel}
+use Rattle.kt_manager.specs.declared.parcels.NodeParcel.TheVariants.{App, Ask, Reply, Decide}
 use Rattle.kt_node.specs.declared.node.Output.{Output}
 use Rattle.kt_node.specs.declared.node.Taken.{Taken}
 use Rattle.kt_node.specs.declared.node.Taken.TheVariants.{Step, Again}

@@ -1,7 +1,7 @@
 -- How a node meets what comes of a process, before its manager takes it.
 use Rattle.std.specs.Prelude.{ℕ, ◌+◌, ◌-◌, ◌==◌, ◌&&◌, ◌||◌, not, nat_lt, nat_le, max, if◌then◌else◌, Bool, true, false, Option, Some, None, Result, Ok, Err, List, length, slice_get, slice_index}
-use Rattle.kt_node.specs.declared.parcels.NodeParcel.{NodeParcel}
-use Rattle.kt_node.specs.declared.parcels.NodeParcel.TheVariants.{App, Ask, Reply, Decide}
+use Rattle.kt_manager.specs.declared.parcels.NodeParcel.{NodeParcel}
+use Rattle.kt_manager.specs.declared.parcels.NodeParcel.TheVariants.{App, Ask, Reply, Decide}
 use Rattle.kt_node.specs.declared.node.Envelope.{Envelope}
 use Rattle.kt_node.specs.declared.node.NodeFault.{NodeFault}
 use Rattle.kt_node.specs.declared.node.NodeFault.TheVariants as fault

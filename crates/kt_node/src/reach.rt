@@ -3,10 +3,11 @@
 ghost use Rattle.std.specs.Prelude.{◌≡◌, ◌∷◌, ◌++◌, [], ℕ, List, max};
 ghost use Rattle.std.specs.List.{flat_map};
 ghost use Rattle.kt_tables.specs.Calls.{Call, sent, received};
-ghost use Rattle.kt_system.specs.ShownActs.{act_shown, acts_shown};
+ghost use Rattle.kt_manager.specs.ShownActs.{act_shown, acts_shown};
 ghost use Rattle.kt_node.specs.NodeHistories.{call_of_row, call_of_act};
 ghost use Rattle.kt_node.specs.Reaches.{IsReach, HasReaches};
-ghost use Rattle.kt_node.specs.Effects.{rows_told, calls_of};
+ghost use Rattle.kt_node.specs.Effects.{calls_of};
+ghost use Rattle.kt_manager.specs.Effects.{rows_told};
 
 use crate::effects::Effects;
 use kt_base::{Label, ProcNo};

@@ -2,11 +2,11 @@
 
 ghost use Rattle.std.specs.Prelude.{◌≡◌, ◌≤◌, ◌<◌, ◌+◌, ◌++◌, ◌==◌, ◌&&◌, if◌then◌else◌, ℕ, [], List, map, length, vec_len, vec_capacity, slice_index_or, slice_set, IfOk, IfSome, IfNone, OnOk, OnErr};
 ghost use Rattle.kt_protocol.specs.States.{Take};
-ghost use Rattle.kt_node.specs.Nodes.{NodeState};
+ghost use Rattle.kt_manager.specs.Nodes.{NodeState};
 ghost use Rattle.kt_node.specs.Clocks.{envelope, clocked_row, source_of};
 ghost use Rattle.kt_machine.specs.Acts.{stepper};
 ghost use Rattle.kt_node.specs.Managers.{ShowsNode};
-ghost use Rattle.kt_node.specs.Effects.{put_to, rows_told};
+ghost use Rattle.kt_manager.specs.Effects.{put_to, rows_told};
 ghost use Rattle.kt_node.specs.Links.{NodeLinks, IsSameNode};
 ghost use Rattle.kt_node.specs.Clusters.{link, step_of, IsFront, IsTurn, IsSpeakable, coming, IsRefusedIn, IsSpent, IsSpentAs};
 

@@ -2,7 +2,7 @@
 
 ghost use Rattle.std.specs.Prelude.{◌≡◌, ◌<◌, ◌&&◌, ℤ, Bool, true, is_none};
 ghost use Rattle.kt_process.specs.ProcessStates.{inst_of};
-ghost use Rattle.kt_node.specs.Nodes.{NodeState, Send, Begin, Held, Comes};
+ghost use Rattle.kt_manager.specs.Nodes.{NodeState, Send, Begin, Held, Comes};
 ghost use Rattle.kt_node.specs.NodeLooks.{asks_to_save, would_save};
 ghost use Rattle.kt_node.specs.Managers.{ShowsNode};
 ghost use Rattle.kt_node.specs.Faults.{stranger, parcel_fault, fault_at};

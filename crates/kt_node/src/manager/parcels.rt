@@ -1,8 +1,8 @@
 //! Any parcel.
 
 ghost use Rattle.std.specs.Prelude.{◌≡◌, true, IfOk, OnErr, IsErrOf};
-ghost use Rattle.kt_node.specs.Nodes.{NodeState, Comes};
-ghost use Rattle.kt_node.specs.NodeSteps.{node_after};
+ghost use Rattle.kt_manager.specs.Nodes.{NodeState, Comes};
+ghost use Rattle.kt_manager.specs.NodeSteps.{node_after};
 ghost use Rattle.kt_node.specs.Managers.{ShowsNode, IsSameManager};
 ghost use Rattle.kt_node.specs.Effects.{IsDone};
 ghost use Rattle.kt_node.specs.Links.{IsSpoken};

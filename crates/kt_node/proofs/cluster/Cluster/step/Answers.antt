@@ -7,7 +7,7 @@ use Rattle.kt_node.specs.declared.cluster.ClusterFault.{ClusterFault}
 use Rattle.kt_node.specs.declared.cluster.OnWay.{OnWay}
 use Rattle.kt_node.specs.declared.node.Output.{Output}
 use Rattle.kt_node.specs.Clusters.{ClusterState, link, step_of, net_after, coming_to, IsRefusedIn, IsRun, IsSpentIn, IsSpentAs, IsPutOut, HasNextNumbers}
-use Rattle.kt_node.specs.Effects.{put_to, rows_told}
+use Rattle.kt_manager.specs.Effects.{put_to, rows_told}
 use Rattle.kt_node.proofs.Clustering.{as_many, not_unknown, refusal, same_err, spending, stays, step_acts, step_numbers, step_runs, step_told}
 use Rattle.kt_node.proofs.cluster.Cluster.step.Goals as goal
 

@@ -1,7 +1,7 @@
 use Rattle.std.proofs.Common.{◌∙◌, ◌+◌, List, arith, rules, sym, ap, subst}
 use Rattle.kt_node.specs.declared.cluster.OnWay.{OnWay}
 use Rattle.kt_node.specs.Clusters.{link}
-use Rattle.kt_node.specs.Effects.{put_to}
+use Rattle.kt_manager.specs.Effects.{put_to}
 use Rattle.kt_node.proofs.OnWay.{HasPut, HasKept, put_one, put_none, one_of, none_of}
 use Rattle.kt_node.proofs.cluster.turns.put.Goals as goal
 use Rattle.kt_node.proofs.cluster.turns.put.Goals.{in-Some, in_default}

@@ -1,7 +1,7 @@
 use Rattle.std.proofs.Common.{◌≡◌, ◌∙◌, false, List, refl, sym, ap, subst}
 use Rattle.std.specs.Prelude.{◌&&◌, not, slice_index_or, Option}
 use Rattle.std.specs.List.{remove}
-use Rattle.kt_node.specs.Nodes.{Input, Held, Comes, is_in_rollback}
+use Rattle.kt_manager.specs.Nodes.{Input, Held, Comes, is_in_rollback}
 use Rattle.kt_node.specs.Nets.{has_some}
 use Rattle.kt_protocol.specs.States.{Take}
 use Rattle.kt_node.specs.Clocks.{clock_after, envelope, front_input}

@@ -1,7 +1,7 @@
 use Rattle.std.proofs.Common.{◌∙◌, ◌++◌, List, [], ◌∷◌, map, take, append_assoc, arith, rules, sym, ap}
 use Rattle.kt_node.specs.Clocks.{clocked_row}
 use Rattle.kt_spacetime.specs.declared.named_rows.ClockedRow.{ClockedRow}
-use Rattle.kt_node.specs.Effects.{rows_told}
+use Rattle.kt_manager.specs.Effects.{rows_told}
 use Rattle.kt_node.proofs.OnWay.{told_one, told_none}
 use Rattle.kt_node.proofs.cluster.turns.tell.Goals as goal
 use Rattle.kt_node.proofs.cluster.turns.tell.Goals.{in-Some, in_default}

@@ -1,7 +1,7 @@
 use Rattle.std.proofs.Common.{◌≡◌, ◌+◌, ◌-◌, ◌≤◌, ◌++◌, length, map, take, vec_len}
 use Rattle.std.specs.Prelude.{vec_capacity}
 use Rattle.kt_node.specs.Clocks.{clocked_row}
-use Rattle.kt_node.specs.Effects.{rows_told}
+use Rattle.kt_manager.specs.Effects.{rows_told}
 use Rattle.kt_node.proofs.cluster.turns.tell.Given as goal
 
 abbrev pub invariant-loop-row : goal.invariant-loop-row

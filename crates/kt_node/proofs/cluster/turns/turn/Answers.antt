@@ -6,7 +6,7 @@ use Rattle.std.specs.Prelude.{if◌then◌else◌, None}
 use Rattle.kt_meaning.specs.Past.{is_rollback_kind}
 use Rattle.kt_protocol.specs.States.{ProtocolStep}
 use Rattle.kt_protocol.specs.States as protocol
-use Rattle.kt_node.specs.Nodes.{Send, Begin}
+use Rattle.kt_manager.specs.Nodes.{Send, Begin}
 use Rattle.kt_node.specs.Clusters.{step_of, IsTurn}
 use Rattle.kt_node.proofs.Turning.{own_turn}
 use Rattle.kt_node.proofs.cluster.turns.turn.Goals as goal

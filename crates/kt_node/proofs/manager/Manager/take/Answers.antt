@@ -1,10 +1,10 @@
 use Rattle.std.proofs.Common.{ℤ, sym, subst, rules}
 use Rattle.std.specs.Int.{w64}
 use Rattle.std.proofs.lemmas.Int.{to_z-of_z}
-use Rattle.kt_node.specs.declared.parcels.NodeParcel.TheVariants as put
+use Rattle.kt_manager.specs.declared.parcels.NodeParcel.TheVariants as put
 use Rattle.kt_tables.specs.Calls.{Speaks}
-use Rattle.kt_node.specs.declared.parcels.NodeParcel.{NodeParcel}
-use Rattle.kt_node.specs.NodeSteps.{taking}
+use Rattle.kt_manager.specs.declared.parcels.NodeParcel.{NodeParcel}
+use Rattle.kt_manager.specs.NodeSteps.{taking}
 use Rattle.kt_node.specs.Effects.{IsDone}
 use Rattle.kt_node.specs.Links.{IsSpoken}
 use Rattle.kt_node.proofs.manager.Manager.take.Goals as goal

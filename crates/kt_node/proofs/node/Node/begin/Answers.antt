@@ -1,7 +1,7 @@
 use Rattle.std.proofs.Common.{◌∙◌, sym, subst, ap}
 use Rattle.std.specs.Prelude.{Some}
 use Rattle.kt_meaning.specs.Past.{is_rollback_kind}
-use Rattle.kt_node.specs.Nodes.{Begin}
+use Rattle.kt_manager.specs.Nodes.{Begin}
 use Rattle.kt_node.specs.Links.{NodeLinks}
 use Rattle.kt_node.specs.Managers.{ManagerState, ShowsNode}
 use Rattle.kt_node.proofs.Counts.{step_of, inside_reaches}

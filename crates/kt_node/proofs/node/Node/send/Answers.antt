@@ -2,8 +2,8 @@ use Rattle.std.proofs.Common.{◌∙◌, ℤ, sym, subst, ap}
 use Rattle.std.specs.Int.{w64}
 use Rattle.std.proofs.lemmas.Int.{to_z-of_z}
 use Rattle.kt_tables.specs.Calls.{Speaks}
-use Rattle.kt_node.specs.Nodes.{Send}
-use Rattle.kt_node.specs.NodeSteps.{node_after}
+use Rattle.kt_manager.specs.Nodes.{Send}
+use Rattle.kt_manager.specs.NodeSteps.{node_after}
 use Rattle.kt_node.specs.Effects.{IsDone}
 use Rattle.kt_node.specs.Links.{NodeLinks}
 use Rattle.kt_node.specs.Managers.{ManagerState, ShowsNode}

@@ -1,6 +1,6 @@
 use Rattle.std.proofs.Common.{ℕ, List, ◌++◌, ◌∙◌, sym, subst, ap}
 use Rattle.std.specs.Prelude.{slice_index}
-use Rattle.kt_node.specs.Nodes.{Comes}
+use Rattle.kt_manager.specs.Nodes.{Comes}
 use Rattle.kt_node.specs.declared.reach.Reaches.{Reaches}
 use Rattle.kt_node.specs.Effects.{calls_of}
 use Rattle.kt_node.specs.Links.{NodeLinks}

@@ -1,5 +1,5 @@
 use Rattle.std.proofs.Common.{◌∙◌, sym, subst, ap}
-use Rattle.kt_node.specs.Nodes.{Held}
+use Rattle.kt_manager.specs.Nodes.{Held}
 use Rattle.kt_node.specs.Links.{NodeLinks}
 use Rattle.kt_node.specs.Managers.{ManagerState, ShowsNode}
 use Rattle.kt_node.proofs.Counts.{step_of, inside_reaches}

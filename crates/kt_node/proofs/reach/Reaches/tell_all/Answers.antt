@@ -1,7 +1,7 @@
 use Rattle.std.proofs.Common.{◌+◌, ◌++◌, take, sym, subst, rules}
 use Rattle.std.specs.List.{flat_map}
 use Rattle.kt_node.specs.declared.reach.Reaches.{Reaches}
-use Rattle.kt_node.specs.Effects.{rows_told}
+use Rattle.kt_manager.specs.Effects.{rows_told}
 use Rattle.kt_node.specs.NodeHistories.{call_of_row}
 use Rattle.kt_node.specs.Reaches.{HasReaches}
 use Rattle.kt_node.proofs.Reaching.{tells_row, tells_none}

@@ -1,0 +1,1 @@
+-- All that is kept, put back.

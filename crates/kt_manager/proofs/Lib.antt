@@ -1,0 +1,11 @@
+pub mod Lists
+pub mod Sides
+pub mod Processes
+pub mod Asks
+pub mod Settling
+pub mod Beginning
+pub mod Hearing
+pub mod Replying
+pub mod Messages
+pub mod Looking
+pub mod Backs
