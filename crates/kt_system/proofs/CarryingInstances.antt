@@ -1,5 +1,5 @@
 -- What a manager does that begins, joins, answers, decides or closes an instance.
-use Rattle.std.proofs.Common.{◌≡◌, ◌∙◌, ℕ, ◌+◌, Bool, true, false, Option, Some, None, List, [], ◌∷◌, ◌++◌, map, length, refl, sym, ap}
+use Rattle.std.proofs.Common.{◌≡◌, ◌∙◌, ℕ, ◌+◌, Bool, true, false, Option, Some, None, [], ◌∷◌, ◌++◌, length, refl, sym, ap}
 use Rattle.std.specs.Prelude.{◌==◌, if◌then◌else◌}
 use Rattle.std.proofs.Math.Path.{fun_ext}
 use Rattle.std.proofs.lemmas.List.{length-map}
@@ -19,11 +19,11 @@ use Rattle.kt_machine.specs.SeenJoining.{new_part, no_note, seen_began, seen_joi
 use Rattle.kt_machine.specs.SeenClosing.{seen_closing_checkpoint, seen_closing_rollback, seen_closing, seen_deciding, seen_ending, seen_settling}
 use Rattle.kt_machine.specs.Values.{closing as acts_of_closing}
 use Rattle.kt_manager.specs.declared.parcels.NodeParcel.TheVariants.{Decide}
-use Rattle.kt_manager.specs.Nodes.{NodeState, Doing, nothing, putting}
+use Rattle.kt_manager.specs.Nodes.{NodeState, Doing, putting}
 use Rattle.kt_manager.specs.NodeJoining.{beginning, joining_checkpoint, joining_rollback}
 use Rattle.kt_manager.specs.NodeClosing.{after_checkpoint, after_rollback, closing, ending, settling}
-use Rattle.kt_system.specs.Carried.{Numbers, numbered, numbered_each, process_at, with_puts, carried, IsOwn, IsAt, numbered_name}
-use Rattle.kt_system.proofs.CarryingLists.{turned, rows_more, puts_asks, puts_decisions, puts_none, list_own, lists_trimmed, lists_put_back, lists_emptied}
+use Rattle.kt_system.specs.Carried.{Numbers, numbered, process_at, with_puts, carried, IsOwn, IsAt, numbered_name}
+use Rattle.kt_system.proofs.CarryingLists.{turned, rows_more, puts_asks, puts_decisions, list_own, lists_trimmed, lists_put_back, lists_emptied}
 use Rattle.kt_system.proofs.CarryingMessages.{carried_answering, carried_nothing}
 
 module _ (v : Seen) (p : ℕ) (number : Numbers) where

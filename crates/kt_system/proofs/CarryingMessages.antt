@@ -1,10 +1,9 @@
 -- What a manager does to messages, at failures and at commands that it refuses.
-use Rattle.std.proofs.Common.{◌≡◌, ◌∙◌, ℕ, ℤ, ◌+◌, Bool, true, false, List, [], ◌∷◌, ◌++◌, map, length, refl, sym, ap, subst}
-use Rattle.std.specs.Prelude.{◌==◌, if◌then◌else◌}
+use Rattle.std.proofs.Common.{◌≡◌, ◌∙◌, ℕ, ℤ, ◌+◌, Bool, true, false, [], ◌∷◌, ◌++◌, length, ap}
+use Rattle.std.specs.Prelude.{if◌then◌else◌}
 use Rattle.std.proofs.lemmas.List.{append-nil}
 use Rattle.kt_base.specs.declared.words.Verb.{Verb}
 use Rattle.kt_fifo.specs.declared.parcels.Parcel.TheVariants as in_code
-use Rattle.kt_spacetime.specs.declared.event.Event.{Event}
 use Rattle.kt_spacetime.specs.declared.event.Event.TheVariants as row
 use Rattle.kt_spacetime.specs.declared.names.InstName.{InstName}
 use Rattle.kt_spacetime.specs.declared.named_rows.NamedCause.{NamedCause}
@@ -19,7 +18,7 @@ use Rattle.kt_manager.specs.declared.parcels.NodeParcel.TheVariants.{App, Reply}
 use Rattle.kt_manager.specs.Nodes.{NodeLists, NodeState, Doing, nothing, with_one}
 use Rattle.kt_manager.specs.NodeMessages.{sending, receiving, arriving, holding, failing, refusing}
 use Rattle.kt_manager.specs.NodeJoining.{replying, unwilling}
-use Rattle.kt_system.specs.Carried.{Numbers, numbered, cause_of, process_at, with_puts, with_lists, carried, IsAt}
+use Rattle.kt_system.specs.Carried.{Numbers, cause_of, process_at, with_puts, with_lists, carried, IsAt}
 use Rattle.kt_system.proofs.CarryingLists.{rows_more, puts_none, puts_one, puts_one_more, lists_same, lists_one_more}
 
 module _ (v : Seen) (p : ℕ) (number : Numbers) where

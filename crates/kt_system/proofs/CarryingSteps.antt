@@ -1,5 +1,5 @@
 -- What a manager does at a command, and at a parcel that it takes, is a step of the machine.
-use Rattle.std.proofs.Common.{◌≡◌, ◌≢◌, ◌∙◌, ℕ, ℤ, ◌+◌, ◌≤◌, Bool, true, false, not, Option, Some, None, List, [], ◌∷◌, ◌++◌, refl, sym, ap, subst, arith}
+use Rattle.std.proofs.Common.{◌≡◌, ◌≢◌, ◌∙◌, ℕ, ℤ, ◌+◌, ◌<◌, ◌≤◌, Bool, true, false, not, Option, Some, None, List, [], ◌∷◌, refl, sym, ap, subst, arith}
 use Rattle.std.specs.Prelude.{◌==◌, ◌&&◌, ◌||◌, if◌then◌else◌, nat_lt, is_some, is_none}
 use Rattle.std.proofs.lemmas.Bool.Decides.{nat_tests}
 use Rattle.kt_base.specs.declared.words.Cause.{Cause}
@@ -16,25 +16,25 @@ use Rattle.kt_protocol.specs.States.{ProtocolStep}
 use Rattle.kt_protocol.specs.States as step
 use Rattle.kt_protocol.specs.Steps.{verb_for}
 use Rattle.kt_protocol.proofs.Updates.{at_one_here, at_one_other}
-use Rattle.kt_machine.specs.Seen.{SeenPart, SeenProcess, SeenLists, Seen}
+use Rattle.kt_machine.specs.Seen.{SeenProcess, SeenLists, Seen}
 use Rattle.kt_machine.specs.ListChanges as changes
 use Rattle.kt_machine.specs.CallTests.{must_take, must_roll}
-use Rattle.kt_machine.specs.SeenMessages.{seen_arrival, seen_without_front, seen_refusal}
+use Rattle.kt_machine.specs.SeenMessages.{seen_sending, seen_without_front, seen_refusal}
 use Rattle.kt_machine.specs.SeenJoining.{no_note, part_after_ask, seen_member_ask, seen_joining_checkpoint, seen_joining_rollback}
 use Rattle.kt_machine.specs.SeenReplies.{part_after_reply, seen_replying, seen_unwilling}
 use Rattle.kt_machine.specs.SeenClosing.{seen_closing, seen_settling}
-use Rattle.kt_machine.specs.SeenActs.{seen_acts, seen_acts_beginning, seen_acts_starting, seen_acts_settling, seen_acts_asked, seen_acts_taking, seen_acts_taking_held, seen_acts_arriving}
+use Rattle.kt_machine.specs.SeenActs.{seen_acts, seen_acts_starting, seen_acts_settling, seen_acts_asked, seen_acts_taking, seen_acts_taking_held}
 use Rattle.kt_machine.specs.Transition.{transition, is_seen_ready, seen_front, seen_take, seen_ask, seen_rollback_ask, seen_checkpoint_ask, seen_beginning, seen_begin_command}
-use Rattle.kt_machine.specs.Values.{Act, Apply, Keep, Drop, closing as acts_of_closing}
+use Rattle.kt_machine.specs.Values.{Act, closing as acts_of_closing}
 use Rattle.kt_manager.specs.declared.parcels.NodeParcel.{NodeParcel}
 use Rattle.kt_manager.specs.declared.parcels.NodeParcel.TheVariants.{App}
 use Rattle.kt_manager.specs.Nodes.{NodeLists, NodeState, Doing, nothing, is_in_rollback}
-use Rattle.kt_manager.specs.Nodes as input
 use Rattle.kt_manager.specs.NodeMessages.{sending, arriving, holding, taking_held, failing, refusing, unable}
 use Rattle.kt_manager.specs.NodeJoining.{beginning, joining_checkpoint, joining_rollback, replying, unwilling, noting}
 use Rattle.kt_manager.specs.NodeClosing.{closing, settling}
-use Rattle.kt_manager.specs.NodeSteps.{starting, told_to_begin, asked, asked_inside, asked_outside, is_in, is_one, counting, is_step, node_after}
-use Rattle.kt_system.specs.Carried.{Numbers, numbered_name, name_for, numbered_each, cause_of, process_at, with_lists, carried, IsOwn, IsAt, begins, with_begun, TakesFront, MakesStep}
+use Rattle.kt_manager.specs.NodeSteps.{starting, told_to_begin, asked, asked_outside, is_in, is_one, counting}
+use Rattle.kt_manager.specs.Turns.{told_to_send, told_to_fail, taking_message}
+use Rattle.kt_system.specs.Carried.{Numbers, numbered_name, name_for, numbered_each, cause_of, process_at, carried, IsOwn, IsAt, begins, with_begun, TakesFront, MakesStep}
 use Rattle.kt_system.proofs.CarryingLists.{lists_same, lists_rest, list_own, list_other}
 use Rattle.kt_system.proofs.CarryingMessages.{carried_if, carried_answering, carried_nothing, carried_part, carried_sending, carried_arriving, carried_holding, carried_failing, carried_refusing, carried_replying, carried_unwilling}
 use Rattle.kt_system.proofs.CarryingInstances.{carried_beginning, carried_joining_checkpoint, carried_joining_rollback, carried_closing, carried_settling, own_if, own_closing, own_settling}
@@ -50,6 +50,7 @@ makes : (v : Seen) (channel : SeenLists) (begun p : ℕ) (number : Numbers) (d :
 makes v channel begun p number d x e f g = record {
   state = e;
   acts = f;
+  size = sym (ap (λ (w : Seen). w.processes) e);
   own = subst (λ (w : Seen). IsAt w p number d.state) e (record {
     own = g;
     process = sym (at_one_here p (process_at d.state) v.states);
@@ -122,21 +123,18 @@ module _ (v : Seen) (p : ℕ) (number : Numbers) (y : NodeState) (h : IsAt v p n
       go true = refl
       go false = refl
 
-  own_refusing : (d : Doing) → d.state ≡ y → IsOwn p v.processes d.state
-  own_refusing d e = subst (IsOwn p v.processes) (sym e) h.own
-
   -- a send and a failure
-  pub makes_send : (q : ℕ) (body : ℤ) → MakesStep v v p number (node_after y (input.Send q body)) (step.Send p q body)
-  makes_send q body = makes v v.channel v.begun p number _ _
-      (carried_if v p number (is_step y (input.Send q body)) ((nat_lt p v.processes && nat_lt q v.processes) && ((v.states p).inst == 0 && not (q == p))) _ _ _ _
-      (λ i. (nat_lt (h.own.me i) (h.own.processes i) && nat_lt q (h.own.processes i)) && (none_test i && not (q == h.own.me i)))
-      (carried_if v p number y.up (v.states p).up _ _ _ _ up_test (carried_sending v p number y h q body) (carried_refusing v p number y h verb.Send Down))
-      (carried_nothing v p number y h))
-      (acts_none (is_step y (input.Send q body)) _ _ [] (acts_none y.up _ _ [] refl refl) refl)
-      (own_if p v.processes (is_step y (input.Send q body)) _ _
-      (own_if p v.processes y.up (sending y q body) (refusing y verb.Send Down) (record { me = h.own.me; processes = h.own.processes; inst = h.own.inst }) h.own) h.own)
+  pub makes_send : (q : ℕ) (body : ℤ) → p < v.processes → q < v.processes → (v.states p).inst ≡ 0 → q ≢ p → MakesStep v v p number (told_to_send y q body) (step.Send p q body)
+  makes_send q body here there free other = makes v v.channel v.begun p number (told_to_send y q body) (step.Send p q body)
+      (carried_if v p number y.up (v.states p).up _ _ _ _ up_test (carried_sending v p number y h q body) (carried_refusing v p number y h verb.Send Down)
+      ∙ ap (λ (b : Bool). if b then (if (v.states p).up then seen_sending v p q body else seen_refusal v p verb.Send cause.Down) else v) (sym may))
+      (acts_none y.up _ _ [] refl refl)
+      (own_if p v.processes y.up (sending y q body) (refusing y verb.Send Down) (record { me = h.own.me; processes = h.own.processes; inst = h.own.inst }) h.own)
+    where
+      may : ((nat_lt p v.processes && nat_lt q v.processes) && ((v.states p).inst == 0 && not (q == p))) ≡ true
+      may = grind (arith, nat_tests, here, there, free, other)
 
-  pub makes_fail : MakesStep v v p number (node_after y input.Fail) (step.Fail p)
+  pub makes_fail : MakesStep v v p number (told_to_fail y) (step.Fail p)
   makes_fail = makes v v.channel v.begun p number _ _
       (carried_if v p number y.up (v.states p).up _ _ _ _ up_test (carried_failing v p number y h) (carried_refusing v p number y h verb.Fail Down))
       (acts_if y.up (v.states p).up _ _ _ _ up_test refl refl)
@@ -246,8 +244,8 @@ module _ (v : Seen) (p : ℕ) (number : Numbers) (y : NodeState) (h : IsAt v p n
 
       -- a message
       pub makes_message : (label m : ℕ) (body : ℤ) → v.channel q p ≡ in_code.App label m body ∷ rest → number q label ≡ m
-          → MakesStep v w p number (if is_in_rollback y then holding y q (App label body) else arriving y q label body) (step.Take p q able)
-      makes_message label m body c e = subst (λ (n : ℕ). v.channel q p ≡ in_code.App label n body ∷ rest → MakesStep v w p number (if is_in_rollback y then holding y q (App label body) else arriving y q label body) (step.Take p q able)) e
+          → MakesStep v w p number (taking_message y q label body) (step.Take p q able)
+      makes_message label m body c e = subst (λ (n : ℕ). v.channel q p ≡ in_code.App label n body ∷ rest → MakesStep v w p number (taking_message y q label body) (step.Take p q able)) e
           (λ i. front rest (in_code.App label (number q label) body) _ t i
           (carried_if w p number (is_in_rollback y) (is_seen_ready v p) _ _ _ _ ready_test (carried_holding w p number y hw q label body)
           (carried_arriving w p number y hw y.held v.held q label body (lists_same v.held p number y.held h.held)))

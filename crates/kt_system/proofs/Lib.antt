@@ -23,3 +23,11 @@ pub mod Ranges
 pub mod Rest
 pub mod Telling
 pub mod Trimmed
+pub mod CarryingActs
+pub mod CarryingInstances
+pub mod CarryingLists
+pub mod CarryingMessages
+pub mod CarryingNumbers
+pub mod CarryingSteps
+pub mod KeepingMessages
+pub mod SystemNodes

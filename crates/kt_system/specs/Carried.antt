@@ -116,6 +116,7 @@ TakesFront y q = is_in_rollback y ≡ false → y.held q ≡ []
 pub record MakesStep (v taken : Seen) (p : ℕ) (number : Numbers) (d : Doing) (x : ProtocolStep) : Type 0 where
   pub state : carried taken p number d ≡ transition v x
   pub acts : d.acts ≡ seen_acts v x
-  -- each process stays one state of a node
+  -- there are as many processes, and each stays one state of a node
+  pub size : (transition v x).processes ≡ v.processes
   pub own : IsAt (transition v x) p number d.state
   pub others : (u : ℕ) (z : NodeState) → (u ≡ p → ⊥) → IsAt v u number z → IsAt (transition v x) u number z

@@ -6,3 +6,6 @@ pub mod Tallies
 pub mod Keeps
 pub mod Counts
 pub mod Kept
+pub mod Carried
+pub mod MessageNumbers
+pub mod SystemNodes
