@@ -27,7 +27,7 @@ use Rattle.kt_manager.specs.Nodes.{NodeLists, NodeState, Doing}
 use Rattle.kt_manager.specs.NodeClosing.{settling}
 use Rattle.kt_manager.specs.NodeMessages.{refusing, unable}
 use Rattle.kt_manager.specs.NodeSteps.{starting, told_to_begin}
-use Rattle.kt_manager.specs.Inboxes.{kept_of}
+use Rattle.kt_manager.specs.Inboxes.{kept_of, counts_of}
 use Rattle.kt_manager.specs.Managers.{ManagerState, as_parcel, HoldsFor, ShowsManager, number_for, process_of}
 
 -- a node that has joined k
@@ -81,7 +81,7 @@ begins k y (Some name) Checkpoint able e = absurd (cc (e))
 begins k y (Some name) Rollback able e = absurd (cc (e))
 
 -- how many messages of each sender it keeps
-pub kept_marks : (w : ManagerState) (y : NodeState) → HoldsFor w y → (λ q. length (kept_of w.inbox q)) ≡ (λ q. length (y.kept q))
+pub kept_marks : (w : ManagerState) (y : NodeState) → HoldsFor w y → counts_of (kept_of w.inbox) ≡ (λ q. length (y.kept q))
 kept_marks w y h = fun_ext (λ q. sym (length-map (kept_of w.inbox q) as_parcel) ∙ ap (λ (l : NodeLists). length (l q)) h.kept)
 
 -- it makes no difference how many it began
@@ -89,7 +89,7 @@ pub holds_begun : (w : ManagerState) (y : NodeState) (n : ℕ) → HoldsFor w y 
 holds_begun w y n h = record { processes = h.processes; me = h.me; held = h.held; kept = h.kept }
 
 -- what its process answers is told of the node
-pub tells_save : (w : ManagerState) (kind : Kind) (able : Bool) (inst : ℕ) (marks : ℕ → ℕ) (y : NodeState) (x : ProcessState) (action : Action) → kind ≡ Checkpoint → ShowsManager w y → inst ≡ 1 → marks ≡ (λ q. length (kept_of w.inbox q))
+pub tells_save : (w : ManagerState) (kind : Kind) (able : Bool) (inst : ℕ) (marks : ℕ → ℕ) (y : NodeState) (x : ProcessState) (action : Action) → kind ≡ Checkpoint → ShowsManager w y → inst ≡ 1 → marks ≡ counts_of (kept_of w.inbox)
     → ((z : SeenProcess) → IsSeenAs w.process z → BeginsAs Checkpoint able w.process.tables.processes inst marks z x action) → BeginsAs kind (able_in kind able) y.processes 1 (marks_in kind y) (process_of y) x action
 tells_save w kind able inst marks y x action e h i m f =
     subst (λ (k : Kind). BeginsAs k (able_in k able) y.processes 1 (marks_in k y) (process_of y) x action) (sym e)

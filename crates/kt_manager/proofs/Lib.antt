@@ -1,3 +1,6 @@
+pub mod Borders
+pub mod InTurn
+pub mod Writing
 pub mod Lists
 pub mod Sides
 pub mod Processes
@@ -8,4 +11,3 @@ pub mod Hearing
 pub mod Replying
 pub mod Messages
 pub mod Looking
-pub mod Backs

@@ -10,7 +10,7 @@ use Rattle.kt_process.specs.ProcessStates.{ProcessState}
 use Rattle.kt_process.specs.Shown.{IsSeenAs}
 use Rattle.kt_spacetime.specs.declared.names.InstName.{InstName}
 use Rattle.kt_spacetime.specs.declared.named_rows.NamedCause.TheVariants.{Down}
-use Rattle.kt_spacetime.specs.declared.named_rows.NamedEvent.TheVariants.{Sent}
+use Rattle.kt_spacetime.specs.declared.named_rows.NamedEvent.TheVariants.{Sent, Dropped}
 use Rattle.kt_manager.specs.declared.parcels.NodeParcel.{NodeParcel}
 use Rattle.kt_manager.specs.declared.parcels.NodeParcel.TheVariants as put
 use Rattle.kt_manager.specs.declared.received.Item.{Item}
@@ -23,13 +23,17 @@ use Rattle.kt_manager.specs.declared.effects.Parcels.TheVariants as puts
 use Rattle.kt_manager.specs.Managers.{ManagerState, size_of, as_parcel, as_parcels, ShowsManager, process_of}
 use Rattle.kt_manager.specs.Effects.{IsDone}
 use Rattle.kt_manager.specs.Turns.{told_to_send, taking_message}
-use Rattle.kt_manager.proofs.Lists.{pushed, popped}
+use Rattle.kt_manager.proofs.Lists.{pushed, popped, moved}
 
 -- the process after a message is the one that the tables have noted it in
 abbrev pub Notes : ProcessState → ProcessState → ℕ → ℕ → Type 0
 Notes old new from label = (z : SeenProcess) → IsSeenAs old z → Speaks (z.calls ++ received from label ∷ []) → IsSeenAs new (record z { calls = z.calls ++ received from label ∷ [] })
 
--- who is up keeps the message
+-- who is down drops the message
+abbrev pub dropping : NodeState → ℕ → ℕ → Doing
+dropping y from label = record (nothing y) { rows = Dropped from label ∷ [] }
+
+-- who is up keeps it
 pub shows_received : (w : ManagerState) (x : ProcessState) (b : InboxLists) (y : NodeState) (from label : ℕ) (body : ℤ) → x.tables.processes ≡ size_of w → ShowsManager w y
     → kept_of b ≡ at_one from (kept_of w.inbox from ++ record { label = label; body = body } ∷ []) (kept_of w.inbox) → held_of b ≡ held_of w.inbox
     → Notes w.process x from label → Speaks (y.calls ++ received from label ∷ [])
@@ -74,6 +78,38 @@ shows_dropped w b y from rest r h e f = record {
   process = h.process;
   inst = h.inst;
 }
+
+-- who is up keeps the first message that it holds
+pub shows_taken : (w : ManagerState) (x : ProcessState) (b : InboxLists) (y : NodeState) (from label : ℕ) (body : ℤ) (rest : List NodeParcel) → x.tables.processes ≡ size_of w → ShowsManager w y
+    → y.held from ≡ put.App label body ∷ rest → drop 1 (y.held from) ≡ rest
+    → kept_of b ≡ at_one from (kept_of w.inbox from ++ take 1 (held_of w.inbox from)) (kept_of w.inbox) → held_of b ≡ at_one from (drop 1 (held_of w.inbox from)) (held_of w.inbox)
+    → Notes w.process x from label → Speaks (y.calls ++ received from label ∷ [])
+    → ShowsManager (record w { process = x; inbox = b }) (receiving (record y { held = at_one from rest y.held }) from label body).state
+shows_taken w x b y from label body rest n h first r e f notes speaks = record {
+  holds = record {
+    processes = n ∙ h.holds.processes;
+    me = h.holds.me;
+    held = popped (held_of w.inbox) (held_of b) from f ∙ (ap (λ (l : NodeLists). at_one from (drop 1 (l from)) l) h.holds.held ∙ ap (λ (l : List NodeParcel). at_one from l y.held) r);
+    kept = moved (kept_of w.inbox) (kept_of b) (held_of w.inbox) from (put.App label body) rest e (ap (λ (l : NodeLists). l from) h.holds.held ∙ first) ∙ ap (λ (l : NodeLists). with_one from (put.App label body) l) h.holds.kept;
+  };
+  process = notes (process_of y) h.process speaks;
+  inst = h.inst;
+}
+
+-- with other room
+pub shows_roomy : (w : ManagerState) (b : InboxLists) (y : NodeState) → ShowsManager w y → kept_of b ≡ kept_of w.inbox → held_of b ≡ held_of w.inbox → ShowsManager (record w { inbox = b }) y
+shows_roomy w b y h e f = record {
+  holds = record { processes = h.holds.processes; me = h.holds.me; held = ap as_parcels f ∙ h.holds.held; kept = ap as_parcels e ∙ h.holds.kept };
+  process = h.process;
+  inst = h.inst;
+}
+
+-- the same body
+pub done_as : (w : ManagerState) (e : Effects) (d : ℤ → Doing) (a b : ℤ) → a ≡ b → IsDone w e (d a) → IsDone w e (d b)
+done_as w e d a b is h = subst (λ (c : ℤ). IsDone w e (d c)) is h
+
+pub done_said : (w : ManagerState) (e : Effects) (d : ℤ → Doing) (a b : ℤ) → a ≡ b → (Speaks (d a).state.calls → IsDone w e (d a)) → Speaks (d b).state.calls → IsDone w e (d b)
+done_said w e d a b is h = subst (λ (c : ℤ). Speaks (d c).state.calls → IsDone w e (d c)) is h
 
 -- what it does with what it holds
 by_state : (w : ManagerState) (e : Effects) (y : NodeState) (up : Bool) (d o : Doing) → y.up ≡ up → IsDone w e (if up then d else o) → IsDone w e (if y.up then d else o)

@@ -1,5 +1,5 @@
 -- The messages that a process has of each other one.
-use Rattle.std.specs.Prelude.{◌≡◌, ℕ, ◌≤◌, ◌++◌, Option, List, [], length, drop, slice_index_or}
+use Rattle.std.specs.Prelude.{◌≡◌, ℕ, ◌≤◌, Option, List, [], ◌++◌, length, drop, slice_index_or}
 use Rattle.kt_base.specs.Sets.{has}
 use Rattle.kt_manager.specs.declared.received.Item.{Item}
 use Rattle.kt_manager.specs.Messages.{Messages, no_messages, HasRoom, has_some, within}
@@ -36,15 +36,19 @@ HasRoomFor b q = HasRoom (messages_of b q)
 abbrev pub nothing : ℕ → List Item
 nothing q = []
 
+-- how many messages there are of each process
+abbrev pub counts_of : (ℕ → List Item) → ℕ → ℕ
+counts_of lists q = length (lists q)
+
 -- of each process the first messages go, as many as are marked
 abbrev pub forgets : (ℕ → ℕ) → (ℕ → List Item) → ℕ → List Item
 forgets marks kept q = drop (marks q) (kept q)
+
+-- of each process what was kept goes before what is held, without what is above the noted label
+abbrev pub puts_back : (ℕ → Option ℕ) → (ℕ → List Item) → (ℕ → List Item) → ℕ → List Item
+puts_back most kept held q = within (most q) (kept q) ++ within (most q) (held q)
 
 -- there are few processes, and the set is of those of which it holds something
 pub record IsInbox (b : InboxLists) (holds : ℕ) : Type 0 where
   pub few : length b.senders ≤ 64
   pub exact : (q : ℕ) → has holds q ≡ has_some (held_of b q)
-
--- of each process all is held again that is not above the label noted of it, what is kept before what is held
-abbrev pub put_back : (ℕ → Option ℕ) → (ℕ → List Item) → (ℕ → List Item) → ℕ → List Item
-put_back noted kept held q = within (noted q) (kept q) ++ within (noted q) (held q)

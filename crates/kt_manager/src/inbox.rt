@@ -1,12 +1,12 @@
 //! The messages that a process has of each other one: those that it received since its permanent checkpoint, which it
 //! keeps, and behind them those that it has still to take, which it holds.
 
-ghost use Rattle.std.specs.Prelude.{◌≡◌, ◌≢◌, ◌+◌, ◌<◌, ◌≤◌, ℕ, true, [], ◌∷◌, ◌++◌, length, take, drop, slice_get, slice_index, IfOk, OnOk, OnErr, IfSome, IfNone};
+ghost use Rattle.std.specs.Prelude.{◌≡◌, ◌≢◌, ◌+◌, ◌<◌, ◌≤◌, ℕ, true, [], ◌∷◌, ◌++◌, length, take, drop, slice_get, slice_index, Option, IfOk, OnOk, OnErr, IfSome, IfNone};
 ghost use Rattle.std.specs.Option.{option_copied};
 ghost use Rattle.kt_base.specs.Sets.{has};
 ghost use Rattle.kt_meaning.specs.Past.{at_one};
 ghost use Rattle.kt_manager.specs.Messages.{has_some, within};
-ghost use Rattle.kt_manager.specs.Inboxes.{processes_of, kept_of, held_of, space_of, HasRoomFor, nothing, forgets};
+ghost use Rattle.kt_manager.specs.Inboxes.{processes_of, kept_of, held_of, space_of, HasRoomFor, nothing, counts_of, forgets, puts_back};
 
 use crate::received::{Item, Received};
 use kt_base::{Label, Memory, ProcNo, ProcSet};
@@ -215,5 +215,29 @@ impl Inbox {
         let list = &mut self.lists[from.index()];
         list.put_back(most);
         note(&mut self.holds, from, list);
+    }
+
+    /// It holds all that it has and keeps none, without what is above the label noted of its sender, if there is one.
+    pub fn put_all_back<F: Fn(ProcNo) -> Option<Label> + Drop>(&mut self, noted: F)
+        requires { F.IsAlwaysCallable noted }
+        ensures processes { processes_of self.new ≡ processes_of self.old }
+        ensures kept { kept_of self.new ≡ nothing }
+        ensures held { (most : ℕ → Option ℕ) → ((q : ℕ) (label : Option ℕ) → q < processes_of self.old → F.post noted q label → label ≡ most q) →
+            held_of self.new ≡ puts_back most (kept_of self.old) (held_of self.old) }
+        ensures space { space_of self.new ≡ space_of self.old }
+    {
+        for number in 0..self.processes() as u8 {
+            let from = ProcNo::nth(number);
+            self.put_back(from, noted(from));
+        }
+    }
+
+    /// How many messages it keeps of each process.
+    pub fn marks(&self, alloc: Global) -> Result<Vec<usize>, Memory>
+        ensures length { IfOk result (λ marks. length marks.items ≡ processes_of self.now) }
+        ensures marks { IfOk result (λ marks. slice_index marks.items ≡ counts_of (kept_of self.now)) }
+    {
+        let marks = self.lists.iter().map(|list| list.kept_count());
+        Ok(marks.collect(alloc)?)
     }
 }

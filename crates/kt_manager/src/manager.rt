@@ -1,6 +1,6 @@
 //! A manager: what it holds, and what can be read of it.
 
-ghost use Rattle.std.specs.Prelude.{◌≡◌, ◌<◌, ◌≤◌, ◌&&◌, ◌↔◌, ◌∷◌, [], drop, is_none, IsTrue, IfOk, IfSome, IfNone};
+ghost use Rattle.std.specs.Prelude.{◌≡◌, ◌<◌, ◌≤◌, ◌&&◌, ◌↔◌, ◌∷◌, [], true, drop, is_none, IsTrue, IfOk, IfSome, IfNone};
 ghost use Rattle.kt_process.specs.ProcessStates.{inst_of};
 ghost use Rattle.kt_machine.specs.CallTests.{must_take};
 ghost use Rattle.kt_manager.specs.declared.parcels.NodeParcel.TheVariants as sent;
@@ -8,7 +8,7 @@ ghost use Rattle.kt_manager.specs.Messages.{has_some};
 ghost use Rattle.kt_manager.specs.Inboxes.{held_of};
 ghost use Rattle.kt_manager.specs.Nodes.{NodeState, opening_node, is_in_rollback};
 ghost use Rattle.kt_manager.specs.NodeSteps.{is_in, is_one};
-ghost use Rattle.kt_manager.specs.Managers.{IsSoundManager, ShowsManager, size_of, number_for, awaited_by};
+ghost use Rattle.kt_manager.specs.Managers.{IsSoundManager, ShowsManager, size_of, is_rolling, number_for, awaited_by};
 ghost use Rattle.kt_manager.specs.ManagerParts.{state_of};
 ghost use Rattle.kt_manager.specs.OwnParts.{HasOwnPart};
 
@@ -20,7 +20,6 @@ use std::alloc::Global;
 use std::marker::Model;
 
 mod instances;
-mod kept;
 mod messages;
 mod own_part;
 
@@ -139,7 +138,8 @@ impl Manager {
 
     /// Whether it is in a rollback.
     pub fn is_in_rollback(&self) -> bool
-        ensures { (y : NodeState) → ShowsManager self.now y → result ≡ is_in_rollback y }
+        ensures state { result ≡ is_rolling self.now }
+        ensures node { (y : NodeState) → ShowsManager self.now y → result ≡ is_in_rollback y }
     {
         self.inst.is_some() && self.process.is_ready()
     }
@@ -175,6 +175,7 @@ impl Manager {
     /// The first message that it holds of a process: its label and its body.
     pub fn first_held(&self, from: ProcNo) -> Option<(Count, i64)>
         requires { from < size_of self.now }
+        ensures held { IfSome result (λ m. has_some (held_of self.now.inbox from) ≡ true) }
         ensures some { IfSome result (λ m. (y : NodeState) → ShowsManager self.now y →
             y.held from ≡ sent.App m.0 m.1 ∷ drop 1 (y.held from)) }
         ensures none { IfNone result ((y : NodeState) → ShowsManager self.now y →

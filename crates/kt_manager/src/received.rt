@@ -152,9 +152,7 @@ impl Received {
     pub(crate) fn put_back(&mut self, most: Option<Label>)
         ensures { self.new ≡ record { kept = []; held = within most self.old.kept ++ within most self.old.held; space = self.old.space } }
     {
-        if let Some(most) = most {
-            drop_above(&mut self.items, most);
-        }
+        drop_above(&mut self.items, most);
         self.kept = 0;
     }
 }
@@ -173,10 +171,13 @@ fn drop_first(items: &mut VecDeque<Item>, count: usize)
     }
 }
 
-/// The messages of a list above a label go.
-fn drop_above(items: &mut VecDeque<Item>, most: Label)
-    ensures items { items.new.items ≡ filter (is_within most) items.old.items }
+/// The messages of a list that are above a label go, if there is one.
+fn drop_above(items: &mut VecDeque<Item>, most: Option<Label>)
+    ensures items { items.new.items ≡ within most items.old.items }
     ensures space { deque_capacity items.new ≡ deque_capacity items.old }
 {
-    items.retain(|item| item.label.get() <= most.get());
+    let Some(label) = most else {
+        return;
+    };
+    items.retain(|item| item.label.get() <= label.get());
 }

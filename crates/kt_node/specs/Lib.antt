@@ -1,10 +1,5 @@
 pub use Rattle.kt_machine.specs.SeenActs
 pub use Rattle.kt_meaning.specs.Names
-pub mod Nodes
-pub mod NodeMessages
-pub mod NodeJoining
-pub mod NodeClosing
-pub mod NodeSteps
 pub mod Nets
 pub mod Erasing
 pub mod FirstLabels
@@ -17,7 +12,6 @@ pub mod ManagerParts
 pub mod OwnParts
 pub mod Effects
 pub mod Faults
-pub mod Turns
 pub mod Reaches
 pub mod Links
 pub mod Meetings

@@ -16,7 +16,6 @@ ghost use Rattle.kt_manager.specs.Managers.{HoldsFor, ShowsManager, IsSameManage
 ghost use Rattle.kt_manager.specs.Turns.{begin_verb, BeginsIn, HearsIn, CanGoOn, CanFollow, named_cause, unwilling_row, joined_row, joined_in, gone_on};
 ghost use Rattle.kt_manager.specs.Effects.{IsDone, rows_told};
 
-use super::kept::{marks_of, put_all_back};
 use super::messages::refusal;
 use super::{Manager, here};
 use crate::effects::{Effects, NO_ACTS, Parcels};
@@ -63,7 +62,7 @@ impl Manager {
     {
         match kind {
             Kind::Checkpoint => {
-                let marks = marks_of(alloc, &self.inbox)?;
+                let marks = self.inbox.marks(alloc)?;
                 self.process.begin_checkpoint(able, here(), marks)
             }
             Kind::Rollback => self.process.begin_rollback(here()),
@@ -141,7 +140,7 @@ impl Manager {
         if let Some(action) = self.process.answer_to_save(able, from, number, ask.label) {
             return Ok(action);
         }
-        let marks = marks_of(alloc, &self.inbox)?;
+        let marks = self.inbox.marks(alloc)?;
         self.process
             .hear_ask_to_save(able, from, number, ask.label, marks)
     }
@@ -363,7 +362,8 @@ impl Manager {
             return;
         }
         if self.process.is_ready() {
-            put_all_back(&mut self.inbox, &self.process);
+            let process = &self.process;
+            self.inbox.put_all_back(|from| process.noted(from));
             return;
         }
         let marks = self.process.marks();

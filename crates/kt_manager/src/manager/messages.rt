@@ -64,16 +64,19 @@ impl Manager {
             Speaks ((taking_held y from (y.held from)).state.calls) →
             IsDone self.new result (taking_held y from (y.held from)) }
     {
-        let Some((label, body)) = self.first_held(from) else {
+        let Some(first) = self.first_held(from) else {
             return Effects::none();
         };
         if !self.process.is_up() {
             self.inbox.drop_held(from);
-            return Effects::told(NamedEvent::Dropped { from, label });
+            return Effects::told(NamedEvent::Dropped {
+                from,
+                label: first.0,
+            });
         }
-        self.process.receive(from, label_of(label));
+        self.process.receive(from, label_of(first.0));
         self.inbox.keep_held(from);
-        reception(from, label, body)
+        reception(from, first.0, first.1)
     }
 
     /// A message comes. It holds it where it is in a rollback, and else it takes it, where it holds none before it.

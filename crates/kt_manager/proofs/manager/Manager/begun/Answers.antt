@@ -33,7 +33,5 @@ returns-in-Join c = λ y able h i s.
     let asks = c.in-Join.ask in
     let goes = c.in-Join.goes in
     let t = subst (λ (a : Action). BeginsAs kind (able_in kind able) y.processes 1 (marks_in kind y) (process_of y) c.args.self.now.process a) c.in-Join.is s in
-    let hi = subst (λ (w : ManagerState). HoldsFor w y) (sym c.self.view_is) h in
-    let joined = subst (λ (w : ManagerState). IsProcessJoined kind y.processes 1 None (marks_in kind y) no_note (process_of y) w.process asks goes) (sym c.self.view_is) t.1 in
     subst (λ (d : Doing). IsDone c.join.new.self c.join.result d) (begins inst y y.inst kind able t.0)
-    (go_joined kind inst None no_note (record y { begun = y.begun + 1 }) _ asks goes (Began inst kind ∷ []) (λ (d : Doing). IsDone c.join.new.self c.join.result d) c.join.ensures (holds_begun _ y (y.begun + 1) hi) (joined_begun kind y (y.begun + 1) c.self.inside.process asks goes joined))
+    (go_joined kind inst None no_note (record y { begun = y.begun + 1 }) _ asks goes (Began inst kind ∷ []) (λ (d : Doing). IsDone c.join.new.self c.join.result d) c.join.ensures (holds_begun _ y (y.begun + 1) h) (joined_begun kind y (y.begun + 1) c.args.self.now.process asks goes t.1))

@@ -1,1 +1,0 @@
--- All that is kept, put back.

@@ -1,0 +1,6 @@
+use Rattle.kt_manager.proofs.Replying.{in_some}
+use Rattle.std.proofs.Common.{◌∙◌}
+use Rattle.kt_manager.proofs.manager.Manager.take_decision.Goals as goal
+
+pub returns : goal.returns
+returns c = record { done = λ y h. c.close.ensures y h (λ e. in_some c.args.self.now.inst c.args.inst.now c.requires (h.inst ∙ e)) }
