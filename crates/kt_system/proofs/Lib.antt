@@ -31,3 +31,4 @@ pub mod CarryingNumbers
 pub mod CarryingSteps
 pub mod KeepingMessages
 pub mod SystemNodes
+pub mod CarryingEffects

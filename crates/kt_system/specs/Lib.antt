@@ -9,3 +9,4 @@ pub mod Kept
 pub mod Carried
 pub mod MessageNumbers
 pub mod SystemNodes
+pub mod CarriedEffects

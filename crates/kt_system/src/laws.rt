@@ -20,6 +20,10 @@ ghost use Rattle.kt_manager.specs.NodeClosing.{closing, settling};
 ghost use Rattle.kt_manager.specs.NodeSteps.{told_to_begin, asked, counting, is_in};
 ghost use Rattle.kt_manager.specs.Turns.{told_to_send, told_to_fail, taking_message};
 ghost use Rattle.kt_system.specs.Carried.{Numbers, numbered_name, carried, IsAt, begins, with_begun, TakesFront, MakesStep};
+ghost use Rattle.kt_manager.specs.declared.effects.Effects.{Effects};
+ghost use Rattle.kt_manager.specs.Effects.{IsDone};
+ghost use Rattle.kt_manager.specs.Managers.{ManagerState};
+ghost use Rattle.kt_system.specs.CarriedEffects.{put_into, HasRisingAsks, written};
 ghost use Rattle.kt_system.specs.SystemNodes.{HasNodes};
 ghost use Rattle.kt_system.specs.MessageNumbers.{number_by, with_number, IsCounted, IsNoMessage, HasNumber, HaveNumbers, WasSent, WereSent, SendsNone};
 
@@ -119,4 +123,12 @@ pub fn nodes_of_systems()
         (with_number p (length v.log + 1) sent) (at_one p (told_to_send (nodes p) q body).state nodes) }
     ensures front { (first : ℕ) (sent : ℕ → List ℕ) (channel : SeenLists) (q p : ℕ) (x : Parcel) (rest : List Parcel) →
         HaveNumbers first sent channel → channel q p ≡ x ∷ rest → HaveNumbers first sent (with_rest channel q p rest) }
+{}
+
+/// A manager's effects, put into channels and a log, are what it has done.
+pub fn effects_of_managers()
+    ensures channels { (w : ManagerState) (e : Effects) (d : Doing) → IsDone w e d → (v : Seen) (p : ℕ) (number : Numbers) →
+        HasRisingAsks e.parcels → put_into v.channel p (length v.log + 1) e.parcels ≡ (carried v p number d).channel }
+    ensures log { (w : ManagerState) (e : Effects) (d : Doing) → IsDone w e d → (v : Seen) (p : ℕ) (number : Numbers) →
+        written v.log p number e ≡ (carried v p number d).log }
 {}

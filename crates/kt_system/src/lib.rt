@@ -16,7 +16,9 @@ mod rooms;
 mod system;
 
 pub use kept::{marks_of, restore, trim};
-pub use laws::{carried_steps, messages_of_steps, nodes_of_systems, numbers_of_messages};
+pub use laws::{
+    carried_steps, effects_of_managers, messages_of_steps, nodes_of_systems, numbers_of_messages,
+};
 pub use puts::{put_asks, put_decisions};
 pub use rooms::{make_room, make_room_back, make_room_to};
 pub use system::{System, Tally};
