@@ -14,8 +14,6 @@ use Rattle.kt_machine.specs.SeenJoining.{no_note, part_after_ask}
 use Rattle.kt_process.specs.Shown.{IsSeenAs, answer_as, noted_as, label_by}
 use Rattle.kt_spacetime.specs.declared.names.InstName.{InstName}
 use Rattle.kt_spacetime.specs.declared.named_rows.NamedCause.TheVariants.{Busy}
-use Rattle.kt_spacetime.specs.declared.named_rows.NamedEvent.{NamedEvent}
-use Rattle.kt_plan.specs.declared.steps.Act.TheVariants as answered
 use Rattle.kt_manager.specs.declared.parcels.NodeParcel.TheVariants as put
 use Rattle.kt_manager.specs.Nodes.{NodeState, Doing, nothing}
 use Rattle.kt_manager.specs.NodeClosing.{settling}
@@ -23,15 +21,17 @@ use Rattle.kt_manager.specs.NodeMessages.{unable}
 use Rattle.kt_manager.specs.NodeJoining.{joining_checkpoint, joining_rollback, replying, unwilling, noting}
 use Rattle.kt_manager.specs.NodeSteps.{is_one, asked}
 use Rattle.kt_manager.specs.Managers.{ManagerState, HoldsFor, ShowsManager, number_for, process_of}
-use Rattle.kt_manager.specs.declared.effects.Effects.{Effects}
+use Rattle.kt_manager.specs.Told.{Told}
+use Rattle.kt_manager.specs.ShownActs.{acts_shown}
+use Rattle.kt_manager.specs.declared.effects.Parcels.{Parcels}
 use Rattle.kt_manager.specs.declared.effects.Parcels.TheVariants as puts
-use Rattle.kt_manager.specs.Effects.{IsDone, rows_told}
-use Rattle.kt_manager.specs.Turns.{able_in, unwilling_row, joined_in, heard_in}
+use Rattle.kt_manager.specs.Effects.{put_to, IsDone}
+use Rattle.kt_manager.specs.Turns.{able_in, unwilling_rows, joined_in, heard_in}
 use Rattle.kt_manager.proofs.Beginning.{joined_node}
 
 -- it replies, with this cause if it is unwilling, and is this node then
 abbrev pub replied : ℕ → InstName → Bool → Option InstName → Option Cause → NodeState → Doing
-replied q k willing o why z = record (replying z q k willing) { rows = rows_told (unwilling_row k o why ∷ []) }
+replied q k willing o why z = record (replying z q k willing) { rows = unwilling_rows k o why }
 
 same_reply : (q : ℕ) (k : InstName) (o : Option InstName) (z : NodeState) (b willing : Bool) (c why : Option Cause) → replies b c ≡ replies willing why → replied q k willing o why z ≡ replied q k b o c z
 same_reply q k o z b willing c why e =
@@ -124,20 +124,16 @@ shows_heard w y (Some name) Rollback q k label h i s = at_test (is_one name k) s
     at_test true s = record { holds = record { processes = h.processes; me = h.me; held = h.held; kept = h.kept }; process = s; inst = i }
     at_test false s = record { holds = record { processes = h.processes; me = h.me; held = h.held; kept = h.kept }; process = s; inst = i }
 
-rows_one : (o : Option NamedEvent) → rows_told (o ∷ None ∷ None ∷ None ∷ []) ≡ rows_told (o ∷ [])
-rows_one None = refl
-rows_one (Some row) = refl
-
 -- it replies
-pub done_reply : (w : ManagerState) (y : NodeState) (kind : Kind) (q : ℕ) (k : InstName) (label : ℕ) (able willing : Bool) (why : Option Cause) (row : Option NamedEvent) → HoldsFor w y → w.inst ≡ y.inst → row ≡ unwilling_row k y.inst why
+pub done_reply : (w : ManagerState) (e : Told) (y : NodeState) (kind : Kind) (q : ℕ) (k : InstName) (label : ℕ) (able willing : Bool) (why : Option Cause) → HoldsFor w y → w.inst ≡ y.inst
+    → e.rows ≡ unwilling_rows k w.inst why → e.acts ≡ [] → e.parcels ≡ puts.One q (put.Reply k willing)
     → answer_as kind (able_in kind able) q (number_for y.inst k) label (process_of y) ≡ replies willing why → IsSeenAs w.process (noted_as kind q (number_for y.inst k) label (process_of y))
-    → IsDone w (record { rows = row ∷ None ∷ None ∷ None ∷ []; acts = answered.Nothing ∷ answered.Nothing ∷ []; parcels = puts.One q (put.Reply k willing) }) (asked y.inst y q able k (is_rollback_kind (Some kind)) label)
-done_reply w y kind q k label able willing why row h i r a s =
-    let effects : Effects = record { rows = row ∷ None ∷ None ∷ None ∷ []; acts = answered.Nothing ∷ answered.Nothing ∷ []; parcels = puts.One q (put.Reply k willing) } in
-    subst (λ (d : Doing). IsDone w effects d) (hears_reply y y.inst kind q k label able willing why a)
+    → IsDone w e (asked y.inst y q able k (is_rollback_kind (Some kind)) label)
+done_reply w e y kind q k label able willing why h i rows acts parcels a s =
+    subst (λ (d : Doing). IsDone w e d) (hears_reply y y.inst kind q k label able willing why a)
     (record {
       state = shows_heard w y y.inst kind q k label h i (subst (λ (z : SeenProcess). IsSeenAs w.process z) (noted_is y y.inst kind q k label) s);
-      puts = λ u. refl;
-      rows = ap (λ (o : Option NamedEvent). rows_told (o ∷ None ∷ None ∷ None ∷ [])) r ∙ rows_one (unwilling_row k y.inst why);
-      acts = refl;
+      puts = λ u. ap (λ (p : Parcels). put_to p u) parcels;
+      rows = rows ∙ ap (λ (o : Option InstName). unwilling_rows k o why) i;
+      acts = ap acts_shown acts;
     })

@@ -5,6 +5,7 @@ pub mod Lists
 pub mod Sides
 pub mod Processes
 pub mod Asks
+pub mod Telling
 pub mod Settling
 pub mod Beginning
 pub mod Hearing

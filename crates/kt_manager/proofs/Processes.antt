@@ -1,5 +1,5 @@
 -- A manager's process, and the state of a node.
-use Rattle.std.proofs.Common.{◌≡◌, ℕ, Bool, true, false, Option, Some, None, refl, sym, subst}
+use Rattle.std.proofs.Common.{◌≡◌, Bool, true, false, Option, Some, None, refl, sym, subst}
 use Rattle.std.specs.Prelude.{if◌then◌else◌}
 use Rattle.kt_process.specs.ProcessStates.{ProcessState, inst_of}
 use Rattle.kt_process.specs.declared.side.Side.{Side}

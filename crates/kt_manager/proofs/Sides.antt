@@ -1,6 +1,6 @@
 -- What is read of a process, as the machine has it.
 use Rattle.std.specs.Prelude.{Option, Some, None}
-use Rattle.std.proofs.Common.{◌≡◌, ℕ, true, false, refl, ap, sym}
+use Rattle.std.proofs.Common.{◌≡◌, ℕ, false, ap}
 use Rattle.kt_machine.specs.Seen.{SeenPart, SeenProcess}
 use Rattle.kt_process.specs.ProcessStates.{ProcessState, is_ready, asked_of}
 use Rattle.kt_process.specs.Turns.{noted_by, marks_of}

@@ -3,21 +3,14 @@ use Rattle.std.specs.Prelude.{◌≡◌, ℕ, ◌==◌, if◌then◌else◌, Opt
 use Rattle.kt_base.specs.Sets.{has}
 use Rattle.kt_base.specs.declared.words.Kind.{Kind}
 use Rattle.kt_spacetime.specs.declared.names.InstName.{InstName}
-use Rattle.kt_spacetime.specs.declared.named_rows.NamedEvent.{NamedEvent}
 use Rattle.kt_manager.specs.declared.parcels.NodeParcel.{NodeParcel}
 use Rattle.kt_manager.specs.declared.parcels.NodeParcel.TheVariants.{Ask, Decide}
 use Rattle.kt_manager.specs.Nodes.{Doing}
 use Rattle.kt_manager.specs.ShownActs.{acts_shown}
-use Rattle.kt_manager.specs.declared.effects.Effects.{Effects}
 use Rattle.kt_manager.specs.declared.effects.Parcels.{Parcels}
 use Rattle.kt_manager.specs.declared.effects.Parcels.TheVariants as puts
+use Rattle.kt_manager.specs.Told.{Told}
 use Rattle.kt_manager.specs.Managers.{ManagerState, ShowsManager}
-
--- the rows that are told
-abbrev pub rows_told : List (Option NamedEvent) → List NamedEvent
-rows_told [] = []
-rows_told (None ∷ rows) = rows_told rows
-rows_told (Some row ∷ rows) = row ∷ rows_told rows
 
 -- the label that stands beside a process
 abbrev pub label_for : List (ℕ × ℕ) → ℕ → Option ℕ
@@ -35,9 +28,9 @@ put_to (puts.One to parcel) q = if q == to then parcel ∷ [] else []
 put_to (puts.Asks k kind asks) q = ask_with k kind (label_for asks q)
 put_to (puts.Decisions k c to) q = if has to q then Decide k c ∷ [] else []
 
--- a manager has done this, and these are its effects
-pub record IsDone (w : ManagerState) (e : Effects) (d : Doing) : Type 0 where
+-- a manager has done this, and this is told of it
+pub record IsDone (w : ManagerState) (e : Told) (d : Doing) : Type 0 where
   pub state : ShowsManager w d.state
   pub puts : (q : ℕ) → put_to e.parcels q ≡ d.puts q
-  pub rows : rows_told e.rows ≡ d.rows
+  pub rows : e.rows ≡ d.rows
   pub acts : acts_shown e.acts ≡ d.acts

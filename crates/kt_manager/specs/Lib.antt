@@ -9,5 +9,6 @@ pub mod Inboxes
 pub mod Managers
 pub mod ManagerParts
 pub mod OwnParts
+pub mod Told
 pub mod Effects
 pub mod Turns

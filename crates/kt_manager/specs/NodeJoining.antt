@@ -1,7 +1,6 @@
 -- The rules of beginning and joining an instance, of replying and of noting an ask.
 use Rattle.std.specs.Prelude.{ℕ, ◌+◌, Bool, true, false, if◌then◌else◌, Option, Some, [], ◌∷◌, ◌++◌, length}
 use Rattle.kt_base.specs.declared.words.Kind.TheVariants.{Checkpoint, Rollback}
-use Rattle.kt_meaning.specs.Past.{at_one}
 use Rattle.kt_tables.specs.Calls.{on_tentative}
 use Rattle.kt_protocol.specs.Joining.{kind_for}
 use Rattle.kt_machine.specs.CallTests.{is_asked_in_checkpoint, checkpoint_label, is_asked_in_rollback, rollback_label}
@@ -10,13 +9,8 @@ use Rattle.kt_machine.specs.Values.{Keep}
 use Rattle.kt_spacetime.specs.declared.names.InstName.{InstName}
 use Rattle.kt_spacetime.specs.declared.named_rows.NamedCause.{NamedCause}
 use Rattle.kt_spacetime.specs.declared.named_rows.NamedEvent.TheVariants.{Began, Took, Ready, Unwilling}
-use Rattle.kt_meaning.specs.Names.{name_of}
 use Rattle.kt_manager.specs.declared.parcels.NodeParcel.TheVariants.{Ask, Reply}
 use Rattle.kt_manager.specs.Nodes.{NodeState, Doing, nothing, putting, with_one}
-
--- the name of the next instance that it begins
-abbrev pub next_name : NodeState → InstName
-next_name y = name_of y.me (y.begun + 1)
 
 -- it begins instance k
 abbrev pub beginning : InstName → NodeState → Bool → Doing
@@ -47,10 +41,6 @@ replying y q k willing = record (nothing y) { puts = with_one q (Reply k willing
 -- it is unwilling to join k, and tells q so
 abbrev pub unwilling : NodeState → ℕ → InstName → NamedCause → Doing
 unwilling y q k cause = record (replying y q k false) { rows = Unwilling k cause ∷ [] }
-
--- q's last ask is the one to join k
-abbrev pub asking : NodeState → ℕ → InstName → NodeState
-asking y q k = record y { asks = at_one q (Some k) y.asks }
 
 -- it notes the label of q's ask to join the rollback that it is in
 abbrev pub noting : NodeState → Bool → ℕ → ℕ → NodeState

@@ -1,5 +1,5 @@
--- What one process's manager has, what comes to it, and what it does then.
-use Rattle.std.specs.Prelude.{ℕ, ℤ, ◌==◌, ◌&&◌, if◌then◌else◌, Bool, true, false, Option, None, is_some, List, [], ◌∷◌, ◌++◌}
+-- What one process's manager has, and what it does at a step.
+use Rattle.std.specs.Prelude.{ℕ, ◌==◌, ◌&&◌, if◌then◌else◌, Bool, true, false, Option, None, is_some, List, [], ◌∷◌, ◌++◌}
 use Rattle.kt_tables.specs.Calls.{Call}
 use Rattle.kt_machine.specs.Seen.{SeenPart, no_part}
 use Rattle.kt_machine.specs.Values.{Act}
@@ -30,16 +30,6 @@ pub record NodeState : Type 0 where
   -- by process: the instance that its last ask named, and whether it has replied in the instance at hand
   pub asks : ℕ → Option InstName
   pub answered : ℕ → Bool
-
--- a command to send a message with this body to a process; to begin an instance, a rollback or not; a failure of its
--- object; the first message that it holds of a process; a parcel of a process. A Boolean after a command or a process says
--- whether its object can be saved.
-pub data Input : Type 0 where
-  Send : ℕ → ℤ → Input
-  Begin : Bool → Bool → Input
-  Fail : Input
-  Held : ℕ → Input
-  Comes : ℕ → Bool → NodeParcel → Input
 
 pub record Doing : Type 0 where
   -- what it is by now

@@ -74,9 +74,10 @@ named_cause None (cause.Busy k) = Down
 named_cause inst cause.Down = Down
 named_cause inst cause.NoSave = NoSave
 
-abbrev pub unwilling_row : InstName → Option InstName → Option Cause → Option NamedEvent
-unwilling_row k inst None = None
-unwilling_row k inst (Some cause) = Some (Unwilling k (named_cause inst cause))
+-- the row of who is unwilling, where there is a cause
+abbrev pub unwilling_rows : InstName → Option InstName → Option Cause → List NamedEvent
+unwilling_rows k inst None = []
+unwilling_rows k inst (Some cause) = Unwilling k (named_cause inst cause) ∷ []
 
 abbrev pub joined_row : InstName → Kind → NamedEvent
 joined_row k Checkpoint = Took k
@@ -96,10 +97,14 @@ abbrev pub heard_in : Kind → ℕ → InstName → ℕ → NodeState → NodeSt
 heard_in Checkpoint q k label y = y
 heard_in Rollback q k label y = if is_in y.inst k then record y { part = part_after_ask y.part q label } else y
 
+-- it decides k
+abbrev pub deciding : InstName → Bool → Doing → Doing
+deciding k commit d = record d { rows = d.rows ++ Decided k commit ∷ [] }
+
 -- what follows from a reply: its own one, or the decision
 abbrev pub gone_on : InstName → NodeState → Action → Doing
 gone_on k y (Reply to willing why) = record (nothing y) { puts = with_one to (put.Reply k willing) (λ q. []) }
-gone_on k y (Settle commit tell) = closing k commit (record (nothing y) { rows = Decided k commit ∷ [] })
+gone_on k y (Settle commit tell) = closing k commit (deciding k commit (nothing y))
 gone_on k y Nothing = nothing y
 gone_on k y (Refuse why) = nothing y
 gone_on k y (Join asks goes) = nothing y

@@ -5,9 +5,9 @@
 //!
 //! **What to change where:** what a manager holds `manager.rt`; messages and failures `manager/messages.rt`; beginning,
 //! joining and closing `manager/instances.rt`; whether its part in an instance is its own `manager/own_part.rt`,
-//! `specs/OwnParts`; what a step puts out `effects.rt`; what it keeps and holds of messages `inbox.rt`, of one sender
-//! `received.rt`. What a manager is by definition: what it has `specs/Nodes`; its rules `specs/NodeMessages`,
-//! `specs/NodeJoining`, `specs/NodeClosing`, `specs/NodeSteps`; parcels `parcels.rt`.
+//! `specs/OwnParts`; what a step puts out `effects.rt`, `specs/Told`, `specs/Effects`; what it keeps and holds of messages
+//! `inbox.rt`, of one sender `received.rt`. What a manager is by definition: what it has `specs/Nodes`; its rules
+//! `specs/NodeMessages`, `specs/NodeJoining`, `specs/NodeClosing`, `specs/NodeSteps`; parcels `parcels.rt`.
 #![tactic(auto)]
 
 mod effects;

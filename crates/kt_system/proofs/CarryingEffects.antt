@@ -14,10 +14,10 @@ use Rattle.kt_machine.specs.Seen.{SeenLists, Seen}
 use Rattle.kt_machine.specs.ListChanges as changes
 use Rattle.kt_machine.specs.InOnePiece.{asks_to, with_asks}
 use Rattle.kt_manager.specs.declared.parcels.NodeParcel.{NodeParcel}
-use Rattle.kt_manager.specs.declared.effects.Effects.{Effects}
+use Rattle.kt_manager.specs.Told.{Told}
 use Rattle.kt_manager.specs.declared.effects.Parcels.{Parcels}
 use Rattle.kt_manager.specs.declared.effects.Parcels.TheVariants.{Nothing, One, Asks, Decisions}
-use Rattle.kt_manager.specs.Effects.{label_for, ask_with, put_to, rows_told, IsDone}
+use Rattle.kt_manager.specs.Effects.{label_for, ask_with, put_to, IsDone}
 use Rattle.kt_manager.specs.Managers.{ManagerState}
 use Rattle.kt_manager.specs.Nodes.{NodeLists, Doing}
 use Rattle.kt_system.specs.Carried.{Numbers, numbered, numbered_each, event_of, with_puts, carried}
@@ -56,7 +56,7 @@ puts_of channel p n (One to x) r = sym (puts_one channel p n to x)
 puts_of channel p n (Asks k kind asks) r = puts_ask channel p n k kind asks r
 puts_of channel p n (Decisions k c to) r = sym (puts_decisions channel p n (λ q. []) k c (has to) ∙ ap (λ (l : SeenLists). changes.with_decisions l p k.count c (has to)) (puts_none channel p n))
 
-module _ (w : ManagerState) (e : Effects) (d : Doing) (done : IsDone w e d) (v : Seen) (p : ℕ) (number : Numbers) where
+module _ (w : ManagerState) (e : Told) (d : Doing) (done : IsDone w e d) (v : Seen) (p : ℕ) (number : Numbers) where
   -- channels and the log
   pub channels_done : HasRisingAsks e.parcels → put_into v.channel p (length v.log + 1) e.parcels ≡ (carried v p number d).channel
   channels_done r = puts_of v.channel p (length v.log + 1) e.parcels r ∙ ap (λ (puts : NodeLists). with_puts v.channel p (length v.log + 1) puts) (fun_ext done.puts)

@@ -6,10 +6,9 @@ use Rattle.kt_machine.specs.Seen.{SeenLists}
 use Rattle.kt_machine.specs.ListChanges.{with_parcel, with_decisions}
 use Rattle.kt_machine.specs.InOnePiece.{with_asks}
 use Rattle.kt_process.specs.Asks.{AreRisingAsks}
-use Rattle.kt_manager.specs.declared.effects.Effects.{Effects}
+use Rattle.kt_manager.specs.Told.{Told}
 use Rattle.kt_manager.specs.declared.effects.Parcels.{Parcels}
 use Rattle.kt_manager.specs.declared.effects.Parcels.TheVariants.{Nothing, One, Asks, Decisions}
-use Rattle.kt_manager.specs.Effects.{rows_told}
 use Rattle.kt_system.specs.Carried.{Numbers, numbered, event_of}
 
 -- channels with the parcels of p's step, where a message has number n
@@ -27,5 +26,5 @@ HasRisingAsks (Asks k kind asks) = AreRisingAsks asks
 HasRisingAsks (Decisions k c to) = Unit {0}
 
 -- a log with the rows of p's step
-abbrev pub written : List Event → ℕ → Numbers → Effects → List Event
-written log p number e = log ++ map (event_of p number) (rows_told e.rows)
+abbrev pub written : List Event → ℕ → Numbers → Told → List Event
+written log p number e = log ++ map (event_of p number) (e.rows)

@@ -20,7 +20,7 @@ ghost use Rattle.kt_manager.specs.NodeClosing.{closing, settling};
 ghost use Rattle.kt_manager.specs.NodeSteps.{told_to_begin, asked, counting, is_in};
 ghost use Rattle.kt_manager.specs.Turns.{told_to_send, told_to_fail, taking_message};
 ghost use Rattle.kt_system.specs.Carried.{Numbers, numbered_name, carried, IsAt, begins, with_begun, TakesFront, MakesStep};
-ghost use Rattle.kt_manager.specs.declared.effects.Effects.{Effects};
+ghost use Rattle.kt_manager.specs.Told.{Told};
 ghost use Rattle.kt_manager.specs.Effects.{IsDone};
 ghost use Rattle.kt_manager.specs.Managers.{ManagerState};
 ghost use Rattle.kt_system.specs.CarriedEffects.{put_into, HasRisingAsks, written};
@@ -127,8 +127,8 @@ pub fn nodes_of_systems()
 
 /// A manager's effects, put into channels and a log, are what it has done.
 pub fn effects_of_managers()
-    ensures channels { (w : ManagerState) (e : Effects) (d : Doing) → IsDone w e d → (v : Seen) (p : ℕ) (number : Numbers) →
+    ensures channels { (w : ManagerState) (e : Told) (d : Doing) → IsDone w e d → (v : Seen) (p : ℕ) (number : Numbers) →
         HasRisingAsks e.parcels → put_into v.channel p (length v.log + 1) e.parcels ≡ (carried v p number d).channel }
-    ensures log { (w : ManagerState) (e : Effects) (d : Doing) → IsDone w e d → (v : Seen) (p : ℕ) (number : Numbers) →
+    ensures log { (w : ManagerState) (e : Told) (d : Doing) → IsDone w e d → (v : Seen) (p : ℕ) (number : Numbers) →
         written v.log p number e ≡ (carried v p number d).log }
 {}

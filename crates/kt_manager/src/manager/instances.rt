@@ -1,24 +1,25 @@
 //! Instances begun, joined and closed.
 
-ghost use Rattle.std.specs.Prelude.{◌≡◌, ◌<◌, ℕ, true, false, Bool, Some, None, [], ◌∷◌, ◌++◌, IfOk, OnOk, OnErr};
+ghost use Rattle.std.specs.Prelude.{◌≡◌, ◌<◌, ◌≤◌, ◌+◌, ℕ, if◌then◌else◌, true, Bool, Some, None, [], ◌∷◌, ◌++◌, length, IfOk, OnOk, OnErr};
 ghost use Rattle.kt_base.specs.Sets.{has};
 ghost use Rattle.kt_base.specs.declared.words.Kind.TheVariants as kind;
 ghost use Rattle.kt_meaning.specs.Past.{is_rollback_kind};
 ghost use Rattle.kt_tables.specs.Peers.{IsCohort};
 ghost use Rattle.kt_machine.specs.Values.{closing as acts_of_closing};
-ghost use Rattle.kt_process.specs.ProcessStates.{is_ready};
 ghost use Rattle.kt_process.specs.Shown.{IsSeenAs, goes_on};
-ghost use Rattle.kt_manager.specs.Nodes.{NodeState, nothing};
+ghost use Rattle.kt_manager.specs.Nodes.{NodeState, Doing, nothing};
 ghost use Rattle.kt_manager.specs.NodeClosing.{closing, settling};
 ghost use Rattle.kt_manager.specs.NodeSteps.{is_in, told_to_begin, asked, counting};
-ghost use Rattle.kt_manager.specs.ShownActs.{act_shown, acts_shown, acts_joining};
+ghost use Rattle.kt_manager.specs.ShownActs.{acts_shown, acts_joining};
 ghost use Rattle.kt_manager.specs.Managers.{HoldsFor, ShowsManager, IsSameManager, IsTurned, size_of, awaited_by, process_of, after_closing};
-ghost use Rattle.kt_manager.specs.Turns.{begin_verb, BeginsIn, HearsIn, CanGoOn, CanFollow, named_cause, unwilling_row, joined_row, joined_in, gone_on};
-ghost use Rattle.kt_manager.specs.Effects.{IsDone, rows_told};
+ghost use Rattle.kt_manager.specs.Turns.{begin_verb, BeginsIn, HearsIn, CanGoOn, CanFollow, named_cause, unwilling_rows, joined_row, joined_in, deciding, gone_on};
+ghost use Rattle.kt_manager.specs.Effects.{IsDone, put_to};
+ghost use Rattle.kt_manager.specs.declared.effects.Parcels.TheVariants as puts;
+ghost use Rattle.kt_manager.specs.declared.parcels.NodeParcel.TheVariants as put;
 
-use super::messages::refusal;
+use super::messages::refuse;
 use super::{Manager, here};
-use crate::effects::{Effects, NO_ACTS, Parcels};
+use crate::effects::{Effects, Parcels};
 use crate::parcels::NodeParcel;
 use kt_base::{Cause, Kind, Label, Memory, ProcNo, ProcSet, Verb};
 use kt_plan::Act;
@@ -42,14 +43,17 @@ impl Manager {
         inst: &InstName,
         kind: Kind,
         able: bool,
-    ) -> Result<Effects, Memory>
-        ensures done { (y : NodeState) → ShowsManager self.old y → IfOk result (λ e.
-            IsDone self.new e
+        out: &mut Effects,
+    ) -> Result<(), Memory>
+        ensures done { (y : NodeState) → ShowsManager self.old y → OnOk result
+            (IsDone self.new out.new
             (told_to_begin inst.now y.inst y (is_rollback_kind (Some kind)) able)) }
         ensures err { OnErr result (IsSameManager self.new self.old) }
+        ensures out { OnErr result (out.new ≡ out.old) }
     {
         let action = self.tell(alloc, kind, able)?;
-        Ok(self.begun(inst, kind, action))
+        self.begun(inst, kind, action, out);
+        Ok(())
     }
 
     /// Its process is told to begin an instance of a kind.
@@ -70,20 +74,20 @@ impl Manager {
     }
 
     /// What follows from a command to begin an instance.
-    fn begun(&mut self, inst: &InstName, kind: Kind, action: Action) -> Effects
+    fn begun(&mut self, inst: &InstName, kind: Kind, action: Action, out: &mut Effects)
         requires can { CanFollow action }
         ensures { (y : NodeState) (able : Bool) → HoldsFor self.old y → self.old.inst ≡ y.inst →
             BeginsIn kind able y self.old.process action →
-            IsDone self.new result
+            IsDone self.new out.new
             (told_to_begin inst.now y.inst y (is_rollback_kind (Some kind)) able) }
     {
         match action {
-            Action::Refuse(cause) => refusal(verb_of(kind), self.named(&cause)),
+            Action::Refuse(cause) => refuse(verb_of(kind), self.named(&cause), out),
             Action::Join { ask, goes } => {
-                let began = NamedEvent::Began { inst: *inst, kind };
-                self.join(inst, kind, Some(began), ask, goes)
+                out.tell(NamedEvent::Began { inst: *inst, kind });
+                self.join(inst, kind, ask, goes, out);
             }
-            Action::Nothing | Action::Reply { .. } | Action::Settle { .. } => Effects::none(),
+            Action::Nothing | Action::Reply { .. } | Action::Settle { .. } => out.clear(),
         }
     }
 
@@ -94,15 +98,18 @@ impl Manager {
         from: ProcNo,
         ask: &Ask,
         able: bool,
-    ) -> Result<Effects, Memory>
+        out: &mut Effects,
+    ) -> Result<(), Memory>
         requires { from < size_of self.old }
-        ensures done { (y : NodeState) → ShowsManager self.old y → IfOk result (λ e.
-            IsDone self.new e (asked y.inst y from able ask.now.inst
+        ensures done { (y : NodeState) → ShowsManager self.old y → OnOk result
+            (IsDone self.new out.new (asked y.inst y from able ask.now.inst
             (is_rollback_kind (Some ask.now.kind)) ask.now.label)) }
         ensures err { OnErr result (IsSameManager self.new self.old) }
+        ensures out { OnErr result (out.new ≡ out.old) }
     {
         let action = self.hear(alloc, from, ask, able)?;
-        Ok(self.answer(from, ask, action))
+        self.answer(from, ask, action, out);
+        Ok(())
     }
 
     /// Its process is asked to take part in an instance.
@@ -159,11 +166,11 @@ impl Manager {
     }
 
     /// What follows from an ask.
-    fn answer(&mut self, from: ProcNo, ask: &Ask, action: Action) -> Effects
+    fn answer(&mut self, from: ProcNo, ask: &Ask, action: Action, out: &mut Effects)
         requires { CanFollow action }
         ensures { (y : NodeState) (able : Bool) → HoldsFor self.old y → self.old.inst ≡ y.inst →
             HearsIn ask.now.kind able from ask.now.inst ask.now.label y self.old.process action →
-            IsDone self.new result (asked y.inst y from able ask.now.inst
+            IsDone self.new out.new (asked y.inst y from able ask.now.inst
             (is_rollback_kind (Some ask.now.kind)) ask.now.label) }
     {
         match action {
@@ -171,184 +178,143 @@ impl Manager {
                 to: _to,
                 willing,
                 cause,
-            } => Effects {
-                rows: [self.unwilling(&ask.inst, &cause), None, None, None],
-                acts: NO_ACTS,
-                parcels: Parcels::One {
-                    to: from,
-                    parcel: NodeParcel::Reply {
+            } => {
+                self.tell_unwilling(&ask.inst, &cause, out);
+                out.put(
+                    from,
+                    NodeParcel::Reply {
                         inst: ask.inst,
                         willing,
                     },
-                },
-            },
-            Action::Join { ask: asks, goes } => self.join(&ask.inst, ask.kind, None, asks, goes),
-            Action::Nothing | Action::Refuse(_) | Action::Settle { .. } => Effects::none(),
+                );
+            }
+            Action::Join { ask: asks, goes } => {
+                out.clear();
+                self.join(&ask.inst, ask.kind, asks, goes, out);
+            }
+            Action::Nothing | Action::Refuse(_) | Action::Settle { .. } => out.clear(),
         }
     }
 
     /// The row of who is unwilling to join, where there is a cause.
-    fn unwilling(&self, inst: &InstName, cause: &Option<Cause>) -> Option<NamedEvent>
-        ensures { result ≡ unwilling_row inst.now self.now.inst cause.now }
+    fn tell_unwilling(&self, inst: &InstName, cause: &Option<Cause>, out: &mut Effects)
+        ensures rows { out.new.rows ≡ unwilling_rows inst.now self.now.inst cause.now }
+        ensures acts { out.new.acts ≡ [] }
     {
         match cause {
-            Some(cause) => Some(NamedEvent::Unwilling {
+            Some(cause) => out.tell(NamedEvent::Unwilling {
                 inst: *inst,
                 cause: self.named(cause),
             }),
-            None => None,
+            None => out.clear(),
         }
     }
 
-    /// Its process has joined an instance, which it began or not: it asks these, or goes on at once.
-    fn join(
-        &mut self,
-        inst: &InstName,
-        kind: Kind,
-        began: Option<NamedEvent>,
-        asks: Asks,
-        goes: Then,
-    ) -> Effects
-        requires { CanGoOn asks goes }
+    /// Its process has joined an instance: it asks these, or goes on at once.
+    fn join(&mut self, inst: &InstName, kind: Kind, asks: Asks, goes: Then, out: &mut Effects)
+        requires can { CanGoOn asks goes }
+        requires rows { length out.old.rows < 2 }
+        requires acts { out.old.acts ≡ [] }
+        requires parcels { out.old.parcels ≡ puts.Nothing }
         ensures { (y : NodeState) (label : ℕ → ℕ) → HoldsFor self.old y →
             IsSeenAs self.old.process (process_of y) → y.inst ≡ Some inst.now →
             IsCohort asks y.part.asked label → goes ≡ goes_on y.part → y.part.willing ≡ true →
-            IsDone self.new result
-            (settling inst.now (joined_in inst.now kind label (rows_told (began ∷ [])) y)) }
+            IsDone self.new out.new
+            (settling inst.now (joined_in inst.now kind label out.old.rows y)) }
     {
         self.inst = Some(*inst);
-        let row = Some(joining_row(inst, kind));
-        let act = joining_act(kind);
+        tell_joining(inst, kind, out);
         match goes {
-            Then::Wait => Effects {
-                rows: [began, row, None, None],
-                acts: [act, Act::Nothing],
-                parcels: Parcels::Asks {
+            Then::Wait => out.put_all(Parcels::Asks {
+                inst: *inst,
+                kind,
+                asks,
+            }),
+            Then::Answer(to) => out.put(
+                to,
+                NodeParcel::Reply {
                     inst: *inst,
-                    kind,
-                    asks,
+                    willing: true,
                 },
-            },
-            Then::Answer(to) => Effects {
-                rows: [began, row, None, None],
-                acts: [act, Act::Nothing],
-                parcels: Parcels::One {
-                    to,
-                    parcel: NodeParcel::Reply {
-                        inst: *inst,
-                        willing: true,
-                    },
-                },
-            },
-            Then::Commit => {
-                let last = self.closing_act(true);
-                self.leave(true);
-                Effects {
-                    rows: [
-                        began,
-                        row,
-                        Some(NamedEvent::Decided {
-                            inst: *inst,
-                            commit: true,
-                        }),
-                        Some(NamedEvent::Closed { inst: *inst }),
-                    ],
-                    acts: two_acts(act, last),
-                    parcels: Parcels::Nothing,
-                }
-            }
+            ),
+            Then::Commit => self.decide(inst, true, out),
         }
     }
 
     /// A reply comes that it awaits in this instance: the last one is followed by its own reply, or by the decision.
-    pub fn take_reply(&mut self, inst: &InstName, willing: bool) -> Effects
+    pub fn take_reply(&mut self, inst: &InstName, willing: bool, out: &mut Effects)
         requires inside { is_in self.old.inst inst.now ≡ true }
         requires awaited { 0 < awaited_by self.old }
         ensures done { (y : NodeState) (q : ℕ) → ShowsManager self.old y →
-            IsDone self.new result (settling inst.now (nothing (counting y q willing))) }
+            IsDone self.new out.new (settling inst.now (nothing (counting y q willing))) }
     {
         let action = self.process.hear_reply(willing);
-        self.go_on(inst, &action)
+        self.go_on(inst, &action, out);
     }
 
     /// What follows from a reply.
-    fn go_on(&mut self, inst: &InstName, action: &Action) -> Effects
+    fn go_on(&mut self, inst: &InstName, action: &Action, out: &mut Effects)
         ensures { (y : NodeState) → ShowsManager self.old y → (y.inst ≡ None → ⊥) →
-            IsDone self.new result (gone_on inst.now y action.now) }
+            IsDone self.new out.new (gone_on inst.now y action.now) }
     {
+        out.clear();
         match action {
             Action::Reply {
                 to,
                 willing,
                 cause: _cause,
-            } => Effects {
-                rows: [None, None, None, None],
-                acts: NO_ACTS,
-                parcels: Parcels::One {
-                    to: *to,
-                    parcel: NodeParcel::Reply {
-                        inst: *inst,
-                        willing: *willing,
-                    },
+            } => out.put(
+                *to,
+                NodeParcel::Reply {
+                    inst: *inst,
+                    willing: *willing,
                 },
-            },
+            ),
             Action::Settle {
                 commit,
                 tell: _tell,
-            } => {
-                let decided = NamedEvent::Decided {
-                    inst: *inst,
-                    commit: *commit,
-                };
-                self.close(inst, *commit, Some(decided))
-            }
-            Action::Nothing | Action::Refuse(_) | Action::Join { .. } => Effects::none(),
+            } => self.decide(inst, *commit, out),
+            Action::Nothing | Action::Refuse(_) | Action::Join { .. } => {}
         }
     }
 
     /// The decision of this instance comes, which it is in: it closes it.
-    pub fn take_decision(&mut self, inst: &InstName, commit: bool) -> Effects
+    pub fn take_decision(&mut self, inst: &InstName, commit: bool, out: &mut Effects)
         requires { is_in self.old.inst inst.now ≡ true }
         ensures done { (y : NodeState) → ShowsManager self.old y →
-            IsDone self.new result (closing inst.now commit (nothing y)) }
+            IsDone self.new out.new (closing inst.now commit (nothing y)) }
     {
-        self.close(inst, commit, None)
+        out.clear();
+        self.close(inst, commit, out);
+    }
+
+    /// It decides its instance, and closes it.
+    fn decide(&mut self, inst: &InstName, commit: bool, out: &mut Effects)
+        requires rows { length out.old.rows < 3 }
+        requires acts { length out.old.acts < 2 }
+        requires parcels { out.old.parcels ≡ puts.Nothing }
+        ensures { (d : Doing) → IsDone self.old out.old d → (d.state.inst ≡ None → ⊥) →
+            IsDone self.new out.new (closing inst.now commit (deciding inst.now commit d)) }
+    {
+        out.row(NamedEvent::Decided {
+            inst: *inst,
+            commit,
+        });
+        self.close(inst, commit, out);
     }
 
     /// It closes its instance, and tells the decision to those that it asked.
-    fn close(&mut self, inst: &InstName, commit: bool, decided: Option<NamedEvent>) -> Effects
-        ensures { (y : NodeState) → ShowsManager self.old y → (y.inst ≡ None → ⊥) →
-            IsDone self.new result
-            (closing inst.now commit (record (nothing y) { rows = rows_told (decided ∷ []) })) }
+    fn close(&mut self, inst: &InstName, commit: bool, out: &mut Effects)
+        requires rows { length out.old.rows < 4 }
+        requires acts { length out.old.acts < 2 }
+        requires parcels { out.old.parcels ≡ puts.Nothing }
+        ensures { (d : Doing) → IsDone self.old out.old d → (d.state.inst ≡ None → ⊥) →
+            IsDone self.new out.new (closing inst.now commit d) }
     {
-        let act = self.closing_act(commit);
+        out.row(NamedEvent::Closed { inst: *inst });
+        act_closing(self.process.is_ready(), commit, out);
         let to = self.leave(commit);
-        Effects {
-            rows: [
-                decided,
-                Some(NamedEvent::Closed { inst: *inst }),
-                None,
-                None,
-            ],
-            acts: [act, Act::Nothing],
-            parcels: Parcels::Decisions {
-                inst: *inst,
-                commit,
-                to,
-            },
-        }
-    }
-
-    /// What it does to its saved states and its object when it closes its instance.
-    fn closing_act(&self, commit: bool) -> Act
-        ensures { act_shown result ≡ acts_of_closing (is_ready self.now.process.side) commit }
-    {
-        match (self.process.is_ready(), commit) {
-            (true, true) => Act::Restore,
-            (true, false) => Act::Nothing,
-            (false, true) => Act::Promote,
-            (false, false) => Act::Discard,
-        }
+        tell_decision(inst, commit, to, out);
     }
 
     /// What becomes of what it keeps and holds when it closes its instance: by a commit a checkpoint's messages go that
@@ -409,32 +375,52 @@ fn verb_of(kind: Kind) -> Verb
     }
 }
 
-/// The row of who joins an instance.
-fn joining_row(inst: &InstName, kind: Kind) -> NamedEvent
-    ensures { result ≡ joined_row inst.now kind }
+/// It joins an instance: who does so for a checkpoint saves its object's state.
+fn tell_joining(inst: &InstName, kind: Kind, out: &mut Effects)
+    requires rows { length out.old.rows < 4 }
+    requires acts { length out.old.acts < 2 }
+    ensures rows { out.new.rows ≡ out.old.rows ++ joined_row inst.now kind ∷ [] }
+    ensures acts { acts_shown out.new.acts ≡ acts_shown out.old.acts ++ acts_joining kind }
+    ensures few { length out.new.acts ≤ length out.old.acts + 1 }
+    ensures parcels { out.new.parcels ≡ out.old.parcels }
 {
     match kind {
-        Kind::Checkpoint => NamedEvent::Took { inst: *inst },
-        Kind::Rollback => NamedEvent::Ready { inst: *inst },
+        Kind::Checkpoint => {
+            out.row(NamedEvent::Took { inst: *inst });
+            out.act(Act::Keep);
+        }
+        Kind::Rollback => out.row(NamedEvent::Ready { inst: *inst }),
     }
 }
 
-/// What it does to its saved states that joins an instance.
-fn joining_act(kind: Kind) -> Act
-    ensures { act_shown result ≡ acts_joining kind }
+/// What it does to its saved states and its object that closes an instance, a rollback or not.
+fn act_closing(is_rollback: bool, commit: bool, out: &mut Effects)
+    requires { length out.old.acts < 2 }
+    ensures acts { acts_shown out.new.acts
+        ≡ acts_shown out.old.acts ++ acts_of_closing is_rollback commit }
+    ensures rows { out.new.rows ≡ out.old.rows }
+    ensures parcels { out.new.parcels ≡ out.old.parcels }
 {
-    match kind {
-        Kind::Checkpoint => Act::Keep,
-        Kind::Rollback => Act::Nothing,
+    match (is_rollback, commit) {
+        (true, true) => out.act(Act::Restore),
+        (true, false) => {}
+        (false, true) => out.act(Act::Promote),
+        (false, false) => out.act(Act::Discard),
     }
 }
 
-/// Two acts in order, nothing last.
-fn two_acts(first: Act, second: Act) -> [Act; 2]
-    ensures { acts_shown result ≡ act_shown first ++ act_shown second }
+/// How an instance was decided goes to these, and nothing else does.
+fn tell_decision(inst: &InstName, commit: bool, to: ProcSet, out: &mut Effects)
+    requires { out.old.parcels ≡ puts.Nothing }
+    ensures rows { out.new.rows ≡ out.old.rows }
+    ensures acts { out.new.acts ≡ out.old.acts }
+    ensures puts { (q : ℕ) → put_to out.new.parcels q ≡ (if has to q then put.Decide inst.now commit ∷ [] else []) }
 {
-    match first {
-        Act::Nothing => [second, Act::Nothing],
-        _ => [first, second],
+    if to.first().is_some() {
+        out.put_all(Parcels::Decisions {
+            inst: *inst,
+            commit,
+            to,
+        });
     }
 }

@@ -1,6 +1,6 @@
 //! Application messages, and failures.
 
-ghost use Rattle.std.specs.Prelude.{◌≡◌, ◌<◌, ◌-◌, ◌^◌, ◌≤◌, ◌||◌, true, false, IfOk, OnErr};
+ghost use Rattle.std.specs.Prelude.{◌≡◌, ◌<◌, ◌-◌, ◌^◌, ◌≤◌, ◌||◌, true, false, OnOk, OnErr};
 ghost use Rattle.kt_tables.specs.Calls.{Speaks};
 ghost use Rattle.kt_manager.specs.Messages.{has_some};
 ghost use Rattle.kt_manager.specs.Inboxes.{held_of, HasRoomFor};
@@ -11,7 +11,7 @@ ghost use Rattle.kt_manager.specs.Effects.{IsDone};
 ghost use Rattle.kt_manager.specs.Turns.{told_to_send, told_to_fail, taking_message};
 
 use super::Manager;
-use crate::effects::{Effects, NO_ACTS, Parcels};
+use crate::effects::Effects;
 use crate::parcels::NodeParcel;
 use crate::received::Item;
 use kt_base::{Label, Memory, ProcNo, Verb};
@@ -20,63 +20,58 @@ use kt_spacetime::{Count, NamedCause, NamedEvent};
 
 impl Manager {
     /// It sends a message to another process; where its object is down, it refuses.
-    pub fn send(&mut self, to: ProcNo, body: i64) -> Effects
+    pub fn send(&mut self, to: ProcNo, body: i64, out: &mut Effects)
         requires to { to < size_of self.old }
         requires left { self.old.process.up ≡ true → self.old.process.used < 2 ^ 48 - 1 }
         ensures done { (y : NodeState) → ShowsManager self.old y →
             Speaks ((told_to_send y to body).state.calls) →
-            IsDone self.new result (told_to_send y to body) }
+            IsDone self.new out.new (told_to_send y to body) }
     {
         if !self.process.is_up() {
-            return refusal(Verb::Send, NamedCause::Down);
+            refuse(Verb::Send, NamedCause::Down, out);
+            return;
         }
         let label = count_of(self.process.send(to));
-        Effects {
-            rows: [Some(NamedEvent::Sent { to, body, label }), None, None, None],
-            acts: NO_ACTS,
-            parcels: Parcels::One {
-                to,
-                parcel: NodeParcel::App { label, body },
-            },
-        }
+        out.tell(NamedEvent::Sent { to, body, label });
+        out.put(to, NodeParcel::App { label, body });
     }
 
     /// Its object fails; where that is down already, it refuses.
-    pub fn fail(&mut self) -> Effects
+    pub fn fail(&mut self, out: &mut Effects)
         ensures { (y : NodeState) → ShowsManager self.old y →
-            IsDone self.new result (told_to_fail y) }
+            IsDone self.new out.new (told_to_fail y) }
     {
         if !self.process.is_up() {
-            return refusal(Verb::Fail, NamedCause::Down);
+            refuse(Verb::Fail, NamedCause::Down, out);
+            return;
         }
         self.process.fail();
-        Effects {
-            rows: [Some(NamedEvent::Failed), None, None, None],
-            acts: [Act::Drop, Act::Nothing],
-            parcels: Parcels::Nothing,
-        }
+        out.tell(NamedEvent::Failed);
+        out.act(Act::Drop);
     }
 
     /// It takes the first message that it holds of a process, as one that comes.
-    pub fn take_held(&mut self, from: ProcNo) -> Effects
+    pub fn take_held(&mut self, from: ProcNo, out: &mut Effects)
         requires from { from < size_of self.old }
         ensures done { (y : NodeState) → ShowsManager self.old y →
             Speaks ((taking_held y from (y.held from)).state.calls) →
-            IsDone self.new result (taking_held y from (y.held from)) }
+            IsDone self.new out.new (taking_held y from (y.held from)) }
     {
         let Some(first) = self.first_held(from) else {
-            return Effects::none();
+            out.clear();
+            return;
         };
         if !self.process.is_up() {
             self.inbox.drop_held(from);
-            return Effects::told(NamedEvent::Dropped {
+            out.tell(NamedEvent::Dropped {
                 from,
                 label: first.0,
             });
+            return;
         }
         self.process.receive(from, label_of(first.0));
         self.inbox.keep_held(from);
-        reception(from, first.0, first.1)
+        tell_reception(from, first.0, first.1, out);
     }
 
     /// A message comes. It holds it where it is in a rollback, and else it takes it, where it holds none before it.
@@ -85,63 +80,65 @@ impl Manager {
         from: ProcNo,
         label: Count,
         body: i64,
-    ) -> Result<Effects, Memory>
+        out: &mut Effects,
+    ) -> Result<(), Memory>
         requires from { from < size_of self.old }
         requires first { is_rolling self.old ≡ false →
             has_some (held_of self.old.inbox from) ≡ false }
         ensures done { (y : NodeState) → ShowsManager self.old y →
             Speaks ((taking_message y from label body).state.calls) →
-            IfOk result (λ e. IsDone self.new e (taking_message y from label body)) }
+            OnOk result (IsDone self.new out.new (taking_message y from label body)) }
         ensures err { OnErr result (IsSameManager self.new self.old) }
+        ensures out { OnErr result (out.new ≡ out.old) }
         ensures memory { (y : NodeState) → ShowsManager self.old y →
             OnErr result ((is_in_rollback y || y.up) ≡ true) }
     {
         if self.is_in_rollback() {
             self.inbox.make_room(from)?;
             self.inbox.hold(from, Item { label, body });
-            return Ok(Effects::none());
+            out.clear();
+            return Ok(());
         }
         if !self.process.is_up() {
-            return Ok(Effects::told(NamedEvent::Dropped { from, label }));
+            out.tell(NamedEvent::Dropped { from, label });
+            return Ok(());
         }
         self.inbox.make_room(from)?;
-        Ok(self.receive(from, label, body))
+        self.receive(from, label, body, out);
+        Ok(())
     }
 
     /// It receives and keeps a message, in room made before.
-    fn receive(&mut self, from: ProcNo, label: Count, body: i64) -> Effects
+    fn receive(&mut self, from: ProcNo, label: Count, body: i64, out: &mut Effects)
         requires from { from < size_of self.old }
         requires up { self.old.process.up ≡ true }
         requires first { has_some (held_of self.old.inbox from) ≡ false }
         requires room { HasRoomFor self.old.inbox from }
         ensures { (y : NodeState) → ShowsManager self.old y →
             Speaks ((arriving y from label body).state.calls) →
-            IsDone self.new result (arriving y from label body) }
+            IsDone self.new out.new (arriving y from label body) }
     {
         self.process.receive(from, label_of(label));
         self.inbox.keep(from, Item { label, body });
-        reception(from, label, body)
+        tell_reception(from, label, body, out);
     }
 }
 
-/// A message that is received.
-fn reception(from: ProcNo, label: Count, body: i64) -> Effects
+/// A message is received.
+fn tell_reception(from: ProcNo, label: Count, body: i64, out: &mut Effects)
     ensures { (w : ManagerState) (y : NodeState) → ShowsManager w (receiving y from label body).state →
-        IsDone w result (receiving y from label body) }
+        IsDone w out.new (receiving y from label body) }
 {
-    Effects {
-        rows: [Some(NamedEvent::Received { from, label }), None, None, None],
-        acts: [Act::Apply { from, body }, Act::Nothing],
-        parcels: Parcels::Nothing,
-    }
+    out.tell(NamedEvent::Received { from, label });
+    out.act(Act::Apply { from, body });
 }
 
-/// A command that is refused.
-pub(super) fn refusal(verb: Verb, cause: NamedCause) -> Effects
+/// A command is refused.
+pub(super) fn refuse(verb: Verb, cause: NamedCause, out: &mut Effects)
     ensures { (w : ManagerState) (y : NodeState) → ShowsManager w y →
-        IsDone w result (refusing y verb cause) }
+        IsDone w out.new (refusing y verb cause) }
 {
-    Effects::told(NamedEvent::Refused { verb, cause })
+    out.tell(NamedEvent::Refused { verb, cause });
 }
 
 /// A label as a count of messages.

@@ -1,19 +1,21 @@
 //! What can be read of a system.
 
-ghost use Rattle.std.specs.Prelude.{◌≡◌, ◌<◌, ◌≤◌, ◌^◌, ◌-◌, ◌↔◌, ◌&&◌, [], ℕ, true, false, IsTrue, IfSome, IfNone, length, is_none};
-ghost use Rattle.std.specs.List.{list_all};
+ghost use Rattle.std.specs.Prelude.{◌≡◌, ◌<◌, ◌≤◌, ◌^◌, ◌-◌, ◌↔◌, ◌&&◌, ℕ, true, false, IsTrue, IfSome, IfNone, length, is_none};
 ghost use Rattle.std.specs.Option.{option_copied};
 ghost use Rattle.kt_base.specs.declared.words.Kind.TheVariants as kind;
 ghost use Rattle.kt_fifo.specs.Channels.{channel};
 ghost use Rattle.kt_process.specs.ProcessStates.{ProcessState, part_of_side, is_ready, inst_of, IsNumbered};
 ghost use Rattle.kt_process.specs.Turns.{joins_by};
-ghost use Rattle.kt_system.specs.Systems.{state_of};
+ghost use Rattle.kt_manager.specs.Managers.{size_of};
+ghost use Rattle.kt_system.specs.Systems.{manager_of, process_in, state_of};
 ghost use Rattle.kt_system.specs.Takes.{is_held};
-ghost use Rattle.kt_system.specs.Reads.{tally_of, awaited_of, held_parcel, next_parcel, can_take, saves_by, would_save, IsQuietSystem};
+ghost use Rattle.kt_system.specs.Reads.{tally_of, awaited_of, can_take, saves_by, would_save, IsQuietSystem};
 
 use super::{System, Tally};
+use crate::names::number_of;
 use kt_base::{InstNo, Kind, Label, ProcNo};
-use kt_fifo::{Channels, Parcel};
+use kt_fifo::Parcel;
+use kt_manager::Manager;
 use kt_process::Process;
 use kt_spacetime::SpaceTime;
 
@@ -24,7 +26,17 @@ impl System {
         ensures few { result ≤ 64 }
         ensures numbered { (p : ℕ) → p < self.now.size → IsNumbered (part_of_side (state_of self.now p).side) }
     {
-        self.channels.processes()
+        self.managers.len()
+    }
+
+    /// A manager.
+    #[inline(always)]
+    pub(super) fn manager(&self, p: ProcNo) -> &Manager
+        requires { p < self.now.size }
+        ensures manager { result.now ≡ manager_of self.now p }
+        ensures size { size_of result.now ≡ self.now.size }
+    {
+        &self.managers[p.index()]
     }
 
     /// The log.
@@ -47,7 +59,10 @@ impl System {
         ensures inst { result ≡ inst_of (state_of self.now p).side }
         ensures numbered { IsNumbered (part_of_side (state_of self.now p).side) }
     {
-        self.process(p).in_inst()
+        let manager = self.manager(p);
+        let inst = manager.in_inst()?;
+        manager.process().in_inst()?;
+        Some(number_of(&inst))
     }
 
     /// Whether a process's object is up.
@@ -55,7 +70,7 @@ impl System {
         requires { p < self.now.size }
         ensures { result ≡ (state_of self.now p).up }
     {
-        self.process(p).is_up()
+        self.manager(p).is_up()
     }
 
     /// How many replies a process awaits in the instance that it is in; 0 where it is in none.
@@ -63,10 +78,11 @@ impl System {
         requires { p < self.now.size }
         ensures { result ≡ awaited_of (part_of_side (state_of self.now p).side) }
     {
-        match self.process(p).part() {
-            Some(part) => part.awaited(),
-            None => 0,
+        let manager = self.manager(p);
+        if manager.in_inst().is_none() {
+            return 0;
         }
+        manager.awaited()
     }
 
     /// Whether a process is in a rollback.
@@ -75,7 +91,7 @@ impl System {
         ensures ready { result ≡ is_ready (state_of self.now p).side }
         ensures numbered { IsNumbered (part_of_side (state_of self.now p).side) }
     {
-        self.process(p).is_ready()
+        self.manager(p).is_in_rollback()
     }
 
     /// Whether the greatest label of a process was given, so that it can't send any more.
@@ -83,16 +99,16 @@ impl System {
         requires { p < self.now.size }
         ensures { IsTrue result ↔ (2 ^ 48 - 1 ≤ (state_of self.now p).used) }
     {
-        self.process(p).is_spent()
+        self.manager(p).process().is_spent()
     }
 
     /// How many parcels are in the channel from one process to another; 0 where one of them is not there.
     pub fn in_flight(&self, from: ProcNo, to: ProcNo) -> usize
         ensures { result ≡ length (channel self.now.channels from to) }
     {
-        let processes = self.channels.processes();
+        let processes = self.processes();
         if from.index() < processes && to.index() < processes {
-            self.channels.len(from, to)
+            self.channels.channels().len(from, to)
         } else {
             0
         }
@@ -112,50 +128,14 @@ impl System {
         }
     }
 
-    /// Whether a process takes what is held for it: it is in no rollback, and something is held. Mostly nothing is held for
-    /// any process, which is asked first.
-    #[tactic(auto, using(crate::proofs::Saving::ready_held))]
-    pub(super) fn takes_held(&self, at: ProcNo) -> bool
-        requires { at < self.now.size }
-        ensures some { result ≡ true → is_ready (state_of self.now at).side ≡ false }
-        ensures none { result ≡ false → (from : ℕ) → is_held self.now at from ≡ false }
-        ensures numbered { IsNumbered (part_of_side (state_of self.now at).side) }
-    {
-        let _count = self.processes();
-        if self.holds_none() {
-            return false;
-        }
-        !self.is_ready(at)
-    }
-
-    /// The first parcel of another process that is held for this one, where it is in no rollback.
-    pub(super) fn held_parcel(&self, at: ProcNo, from: ProcNo) -> Option<Parcel>
+    /// Whether a process takes a message of another one that it holds: it is in no rollback, and holds one.
+    #[inline(always)]
+    pub(super) fn takes_held(&self, at: ProcNo, from: ProcNo) -> bool
         requires at { at < self.now.size }
-        requires from { from < self.now.size }
-        ensures parcel { result ≡ held_parcel self.now at from }
-        ensures numbered { IsNumbered (part_of_side (state_of self.now at).side) }
+        ensures { result ≡ is_held self.now at from }
     {
-        if !self.takes_held(at) {
-            return None;
-        }
-        self.held.front(from, at).copied()
-    }
-
-    /// The parcel that a process would take next from another one: the first that is held, where it is in no rollback,
-    /// else the front of the channel.
-    #[tactic(auto, using(crate::proofs::Saving::next_unheld, crate::proofs::Saving::next_held, crate::proofs::Saving::next_sent))]
-    fn next_front(&self, at: ProcNo, from: ProcNo) -> Option<&Parcel>
-        requires at { at < self.now.size }
-        requires from { from < self.now.size }
-        ensures { option_copied result ≡ next_parcel self.now at from }
-    {
-        if !self.takes_held(at) {
-            return self.channels.front(from, at);
-        }
-        match self.held.front(from, at) {
-            Some(parcel) => Some(parcel),
-            None => self.channels.front(from, at),
-        }
+        let manager = self.manager(at);
+        manager.holds(from) && !manager.is_in_rollback()
     }
 
     /// Whether a process can take a parcel of another one.
@@ -179,43 +159,42 @@ impl System {
     /// Whether the next parcel from another process makes this one take its tentative checkpoint, if its object can be
     /// saved.
     #[inline(always)]
-    #[tactic(auto, using(crate::proofs::Saving::no_save))]
     pub fn would_save(&self, at: ProcNo, from: ProcNo) -> bool
         requires at { at < self.now.size }
         requires from { from < self.now.size }
         ensures { result ≡ would_save self.now at from }
     {
-        if !self.may_save(at) {
+        if !self.may_save(at) || self.takes_held(at, from) {
             return false;
         }
-        match self.next_front(at, from) {
-            Some(parcel) => saves_by(self.process(at), from, parcel),
+        match self.channels.channels().front(from, at) {
+            Some(parcel) => saves_by(self.manager(at).process(), from, parcel),
             None => false,
         }
     }
 
     /// Whether no process is in an instance.
     fn all_outside(&self) -> bool
-        ensures { result ≡ list_all (λ (x : ProcessState). is_none (inst_of x.side)) self.now.states }
+        ensures { IsTrue result ↔ ((p : ℕ) → p < self.now.size → is_none (inst_of (state_of self.now p).side) ≡ true) }
     {
-        self.processes
-            .iter()
-            .all(|process| process.in_inst().is_none())
+        self.managers.iter().all(is_outside)
     }
 
     /// Whether no parcel is in a channel or held, and no process in an instance.
     pub fn is_quiet(&self) -> bool
         ensures { IsTrue result ↔ IsQuietSystem self.now }
     {
-        is_empty(&self.channels) && is_empty(&self.held) && self.all_outside()
+        self.channels.channels().receivers().first().is_none()
+            && self.holds_none()
+            && self.all_outside()
     }
 }
 
-/// Whether no parcel is in any list.
-pub(super) fn is_empty(channels: &Channels) -> bool
-    ensures { IsTrue result ↔ ((p q : ℕ) → channel channels.now p q ≡ []) }
+/// Whether a manager is in no instance.
+fn is_outside(manager: &Manager) -> bool
+    ensures { result ≡ is_none (inst_of (process_in manager.now).side) }
 {
-    channels.receivers().first().is_none()
+    manager.in_inst().is_none() || manager.process().in_inst().is_none()
 }
 
 /// Whether a parcel makes a process take its tentative checkpoint, if its object can be saved.

@@ -17,4 +17,4 @@ returns c = λ y h speaks.
     let calls = speaks_up y (receiving y from label body) (dropping y from label) up speaks in
     done_up _ _ y (receiving y from label body) (dropping y from label) up
     (done_as _ _ (λ (b : ℤ). receiving y from label b) _ _ (to_z-of_z w64 body c.ranges.body)
-    (c.reception.ensures _ y (shows_received _ c.receive.new.self c.keep.new.self y from label _ c.receive.ensures.processes i c.keep.ensures.kept c.keep.ensures.held notes calls)))
+    (c.tell_reception.ensures _ y (shows_received _ c.receive.new.self c.keep.new.self y from label _ c.receive.ensures.processes i c.keep.ensures.kept c.keep.ensures.held notes calls)))

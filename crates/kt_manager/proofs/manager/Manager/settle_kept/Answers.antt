@@ -2,7 +2,7 @@ use Rattle.std.proofs.Common.{rules, ◌≡◌, ◌∙◌, ℕ, true, false, sym
 use Rattle.std.specs.Prelude.{Option}
 use Rattle.kt_process.specs.Shown.{mark_of}
 use Rattle.kt_process.specs.Turns.{noted_by}
-use Rattle.kt_manager.specs.Inboxes.{kept_of, held_of, puts_back, forgets}
+use Rattle.kt_manager.specs.Inboxes.{kept_of, forgets}
 use Rattle.kt_manager.proofs.Sides.{ready_is, noted_is, marks_are}
 use Rattle.kt_manager.proofs.Processes.{shows_inside}
 use Rattle.kt_manager.proofs.Lists.{closing_rollback, closing_checkpoint}

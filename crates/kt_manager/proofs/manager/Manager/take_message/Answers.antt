@@ -1,7 +1,6 @@
 use Rattle.std.proofs.Common.{◌∙◌, ℤ, ap, sym}
 use Rattle.std.specs.Int.{w64}
 use Rattle.std.proofs.lemmas.Int.{to_z-of_z}
-use Rattle.kt_manager.specs.declared.received.Item.{Item}
 use Rattle.kt_manager.specs.declared.parcels.NodeParcel.TheVariants.{App}
 use Rattle.kt_manager.specs.Messages.{has_some}
 use Rattle.kt_manager.specs.Inboxes.{held_of}
@@ -21,7 +20,7 @@ returns-then-is_in_rollback-clause-done c = λ y h speaks.
     let roomy = shows_roomy _ c.make_room.new.self y i c.make_room.ensures.kept c.make_room.ensures.held in
     done_holding _ _ y from label body (sym (c.is_in_rollback.ensures.node y h) ∙ c.if-is_in_rollback.true)
     (done_as _ _ (λ (b : ℤ). holding y from (App label b)) _ _ (to_z-of_z w64 body c.ranges.body)
-    (c.none.ensures _ _ (shows_holding _ c.hold.new.self y from label _ roomy c.hold.ensures.held c.hold.ensures.kept)))
+    (c.clear.ensures.done _ _ (shows_holding _ c.hold.new.self y from label _ roomy c.hold.ensures.held c.hold.ensures.kept)))
 
 pub receive-requires-clause-first : goal.receive-requires-clause-first
 receive-requires-clause-first c =
@@ -36,7 +35,7 @@ returns-then-not-is_up-clause-done c = λ y h speaks.
     let body = c.args.body in
     let down = sym i.process.up ∙ (sym c.is_up.ensures ∙ c.if-not-is_up.true) in
     done_arriving _ _ y from label body (sym (c.is_in_rollback.ensures.node y h) ∙ c.if-is_in_rollback.false)
-    (done_down _ _ y (receiving y from label body) (dropping y from label) down (c.told.ensures c.args.self.now y h))
+    (done_down _ _ y (receiving y from label body) (dropping y from label) down (c.tell.ensures.done c.args.self.now y h))
 
 pub returns-clause-done : goal.returns-clause-done
 returns-clause-done c = λ y h speaks.
