@@ -1,3 +1,4 @@
+pub mod Managed
 pub mod Takes
 pub mod Counting
 pub mod Places
@@ -12,3 +13,9 @@ pub mod CarryingSteps
 pub mod KeepingMessages
 pub mod SystemNodes
 pub mod CarryingEffects
+pub mod Stepping
+pub mod Knowing
+pub mod Carrying
+pub mod Telling
+pub mod Rest
+pub mod Tallying

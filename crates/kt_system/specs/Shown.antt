@@ -1,6 +1,7 @@
 -- A system as the machine of what code keeps has it.
 use Rattle.std.specs.Prelude.{◌≡◌, ◌<◌, ◌≤◌, ℕ}
 use Rattle.kt_fifo.specs.Channels.{channel}
+use Rattle.kt_process.specs.ProcessStates.{part_of_side, IsNumbered}
 use Rattle.kt_process.specs.Shown.{IsSeenAs}
 use Rattle.kt_machine.specs.Seen.{Seen}
 use Rattle.kt_manager.specs.Nodes.{NodeState}
@@ -23,3 +24,4 @@ pub record ShowsState (w : Whole) (v : Seen) : Type 0 where
   pub managers : (p : ℕ) → p < w.size → ShowsManager (manager_of w p) (nodes p)
   pub has_nodes : HasNodes v w.sent.first (sent_by w.sent) nodes
   pub few : (p : ℕ) → p < w.size → number_of (nodes p).inst ≤ 4096
+  pub numbered : (p : ℕ) → p < w.size → IsNumbered (part_of_side (manager_of w p).process.side)

@@ -7,6 +7,7 @@ use Rattle.kt_spacetime.specs.declared.named_rows.NamedCause.{NamedCause}
 use Rattle.kt_spacetime.specs.declared.named_rows.NamedCause.TheVariants.{Busy, Down, NoSave}
 use Rattle.kt_spacetime.specs.declared.named_rows.NamedEvent.{NamedEvent}
 use Rattle.kt_spacetime.specs.declared.named_rows.NamedEvent.TheVariants.{Sent, Received, Dropped, Began, Took, Ready, Unwilling, Decided, Closed, Failed, Refused}
+use Rattle.kt_process.specs.ProcessStates.{part_of_side, IsNumbered}
 use Rattle.kt_manager.specs.declared.parcels.NodeParcel.{NodeParcel}
 use Rattle.kt_manager.specs.declared.parcels.NodeParcel.TheVariants as node
 use Rattle.kt_manager.specs.declared.effects.Parcels.{Parcels}
@@ -21,7 +22,7 @@ use Rattle.kt_manager.specs.NodeClosing.{closing, settling}
 use Rattle.kt_manager.specs.NodeSteps.{asked, counting, is_in}
 use Rattle.kt_manager.specs.Turns.{taking_message}
 use Rattle.kt_system.specs.Carried.{numbered_name}
-use Rattle.kt_manager.specs.Effects.{IsDone}
+use Rattle.kt_manager.specs.Effects.{put_to, IsDone}
 use Rattle.kt_system.specs.MessageNumbers.{IsCounted}
 use Rattle.kt_system.specs.SentNumbers as numbers
 use Rattle.kt_system.specs.SentNumbers.{sent_by}
@@ -57,10 +58,7 @@ IsKnownParcel (node.Reply k w) = HasInstNo k
 IsKnownParcel (node.Decide k c) = HasInstNo k
 
 abbrev pub AreKnownParcels : Parcels → Type 0
-AreKnownParcels Nothing = Unit {0}
-AreKnownParcels (One to x) = IsKnownParcel x
-AreKnownParcels (Asks k kind asks) = HasInstNo k
-AreKnownParcels (Decisions k c to) = HasInstNo k
+AreKnownParcels x = (q : ℕ) → All IsKnownParcel (put_to x q)
 
 -- so it is of all that a step tells
 pub record IsKnown (s : numbers.Sent) (e : Told) : Type 0 where
@@ -112,6 +110,7 @@ pub record IsCarriedOut (old new : Whole) : Type 0 where
 -- the manager of p has stepped, which has put this out for processes that there are
 pub record IsStepped (old new : Whole) (p : ℕ) : Type 0 where
   pub turned : IsTurned old new p
+  pub numbered : IsNumbered (part_of_side (manager_of new p).process.side)
   pub within : AreWithin new.size new.told.parcels
 
 -- the manager of p has done what a node does

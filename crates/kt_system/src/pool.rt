@@ -41,10 +41,58 @@ impl Pool {
         })
     }
 
-    pub(crate) fn channels(&self) -> &Channels
-        ensures { result.now ≡ self.now.lists }
+    pub(crate) fn len(&self, from: ProcNo, to: ProcNo) -> usize
+        requires from { from < self.now.lists.processes }
+        requires to { to < self.now.lists.processes }
+        ensures { result ≡ length (channel self.now.lists from to) }
     {
-        &self.channels
+        self.channels.len(from, to)
+    }
+
+    pub(crate) fn senders(&self, to: ProcNo) -> ProcSet
+        requires { to < self.now.lists.processes }
+        ensures { (from : ℕ) → has result from ≡ has_parcel (channel self.now.lists from to) }
+    {
+        self.channels.senders(to)
+    }
+
+    pub(crate) fn receivers(&self) -> ProcSet
+        ensures some { (to : ℕ) → has result to ≡ true → (from : ℕ) × (has_parcel (channel self.now.lists from to) ≡ true) }
+        ensures none { (from to : ℕ) → has result to ≡ false → channel self.now.lists from to ≡ [] }
+        ensures within { (to : ℕ) → has result to ≡ true → to < self.now.lists.processes }
+    {
+        self.channels.receivers()
+    }
+
+    #[inline(always)]
+    pub(crate) fn sender_count(&self, to: ProcNo) -> usize
+        requires { to < self.now.lists.processes }
+        ensures { result ≡ count_first (waits self.now.lists to) self.now.lists.processes }
+    {
+        self.channels.sender_count(to)
+    }
+
+    #[inline(always)]
+    pub(crate) fn busy_pairs(&self) -> usize
+        ensures { result ≡ busy_pairs self.now.lists }
+    {
+        self.channels.busy_pairs()
+    }
+
+    #[inline(always)]
+    pub(crate) fn pair_at(&self, place: usize) -> Option<(ProcNo, ProcNo)>
+        ensures some { IfSome result (λ pair. IsPairAt self.now.lists pair.0 pair.1 place) }
+        ensures none { IfNone result (busy_pairs self.now.lists ≤ place) }
+    {
+        self.channels.pair_at(place)
+    }
+
+    pub(crate) fn front(&self, from: ProcNo, to: ProcNo) -> Option<&Parcel>
+        requires from { from < self.now.lists.processes }
+        requires to { to < self.now.lists.processes }
+        ensures { option_copied result ≡ slice_get (channel self.now.lists from to) 0 }
+    {
+        self.channels.front(from, to)
     }
 
     pub(crate) fn spare(&self) -> usize

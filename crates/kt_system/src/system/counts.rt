@@ -26,7 +26,7 @@ impl System {
         ensures few { result ≤ 64 }
     {
         if self.held_senders(at).first().is_none() {
-            return self.channels.channels().sender_count(at);
+            return self.channels.sender_count(at);
         }
         self.all_senders(at).count() as usize
     }
@@ -49,7 +49,7 @@ impl System {
         requires { (p q : ℕ) → held_in self.now p q ≡ [] }
         ensures { result ≡ takes_in self.now }
     {
-        self.channels.channels().busy_pairs()
+        self.channels.busy_pairs()
     }
 
     /// The take at a place among all, where no parcel is held: who takes, and of whom.
@@ -59,6 +59,6 @@ impl System {
         ensures some { IfSome result (λ take. IsTakeAt self.now take.0 take.1 place) }
         ensures none { IfNone result (takes_in self.now ≤ place) }
     {
-        self.channels.channels().pair_at(place)
+        self.channels.pair_at(place)
     }
 }

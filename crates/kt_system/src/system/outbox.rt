@@ -3,7 +3,7 @@
 ghost use Rattle.std.specs.Prelude.{◌≡◌, ◌<◌, ◌≤◌, ◌+◌, ◌^◌, [], All, OnOk, drop, length};
 ghost use Rattle.kt_fifo.specs.Channels.{channel, at_pair};
 ghost use Rattle.kt_manager.specs.ShownActs.{acts_shown};
-ghost use Rattle.kt_system.specs.CarriedEffects.{put_into, written};
+ghost use Rattle.kt_system.specs.CarriedEffects.{put_into, written, HasRisingAsks};
 ghost use Rattle.kt_system.specs.MessageNumbers.{with_number};
 ghost use Rattle.kt_system.specs.SentNumbers.{sent_by, HasRoomToSend};
 ghost use Rattle.kt_system.specs.Steps.{AreWithin, AreKnownParcels, IsKnownRow, IsKnown, IsPopped, IsPut, IsWritten, IsCarriedOut};
@@ -93,6 +93,7 @@ impl System {
         ensures keeps { IsPut self.old self.new }
         ensures channels { AreKnownParcels self.old.told.parcels → channel self.new.channels ≡
             put_into (channel self.old.channels) p (length self.old.rows.rows + 1) self.old.told.parcels }
+        ensures rising { HasRisingAsks self.old.told.parcels }
         ensures tallies { TalliesPut [] self.old self.new }
     {
         match self.effects.parcels() {
@@ -143,6 +144,7 @@ impl System {
             put_into (channel self.old.channels) p (length self.old.rows.rows + 1) self.old.told.parcels }
         ensures rows { IsKnown self.old.sent self.old.told → self.new.rows.rows ≡
             written self.old.rows.rows p (numbers_in self.old) self.old.told }
+        ensures rising { HasRisingAsks self.old.told.parcels }
         ensures grows { LogGrows 4 self.old self.new }
         ensures tallies { TalliesPut [] self.old self.new }
     {

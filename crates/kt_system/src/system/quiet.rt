@@ -39,7 +39,7 @@ impl System {
         if self.takes_held(at, from) {
             return Ok(false);
         }
-        let Some(parcel) = self.channels.channels().front(from, at).copied() else {
+        let Some(parcel) = self.channels.front(from, at).copied() else {
             return Ok(false);
         };
         if !self.is_quiet_parcel(at, from, &parcel) {

@@ -16,11 +16,11 @@ use crate::names::number_of;
 use kt_base::{InstNo, Kind, Label, ProcNo};
 use kt_fifo::Parcel;
 use kt_manager::Manager;
-use kt_process::Process;
 use kt_spacetime::SpaceTime;
 
 impl System {
     /// How many processes there are: each process that a call names is below this number.
+    #[tactic(auto, using(crate::proofs::Managed::numbered_for))]
     pub fn processes(&self) -> usize
         ensures processes { result ≡ self.now.size }
         ensures few { result ≤ 64 }
@@ -54,6 +54,7 @@ impl System {
     }
 
     /// The instance that a process is in.
+    #[tactic(auto, using(crate::proofs::Managed::numbered_for, crate::proofs::Managed::outside_for, crate::proofs::Managed::alone_for, crate::proofs::Managed::inst_for))]
     pub fn in_inst(&self, p: ProcNo) -> Option<InstNo>
         requires { p < self.now.size }
         ensures inst { result ≡ inst_of (state_of self.now p).side }
@@ -74,6 +75,7 @@ impl System {
     }
 
     /// How many replies a process awaits in the instance that it is in; 0 where it is in none.
+    #[tactic(auto, using(crate::proofs::Managed::awaits_none, crate::proofs::Managed::awaits_for))]
     pub fn awaited(&self, p: ProcNo) -> u32
         requires { p < self.now.size }
         ensures { result ≡ awaited_of (part_of_side (state_of self.now p).side) }
@@ -86,6 +88,7 @@ impl System {
     }
 
     /// Whether a process is in a rollback.
+    #[tactic(auto, using(crate::proofs::Managed::ready_for, crate::proofs::Managed::numbered_for))]
     pub fn is_ready(&self, p: ProcNo) -> bool
         requires { p < self.now.size }
         ensures ready { result ≡ is_ready (state_of self.now p).side }
@@ -108,7 +111,7 @@ impl System {
     {
         let processes = self.processes();
         if from.index() < processes && to.index() < processes {
-            self.channels.channels().len(from, to)
+            self.channels.len(from, to)
         } else {
             0
         }
@@ -130,6 +133,7 @@ impl System {
 
     /// Whether a process takes a message of another one that it holds: it is in no rollback, and holds one.
     #[inline(always)]
+    #[tactic(auto, using(crate::proofs::Managed::holds_is, crate::proofs::Managed::ready_for))]
     pub(super) fn takes_held(&self, at: ProcNo, from: ProcNo) -> bool
         requires at { at < self.now.size }
         ensures { result ≡ is_held self.now at from }
@@ -167,10 +171,24 @@ impl System {
         if !self.may_save(at) || self.takes_held(at, from) {
             return false;
         }
-        match self.channels.channels().front(from, at) {
-            Some(parcel) => saves_by(self.manager(at).process(), from, parcel),
+        match self.channels.front(from, at) {
+            Some(parcel) => self.saves_by(at, from, parcel),
             None => false,
         }
+    }
+
+    /// Whether a parcel makes a process take its tentative checkpoint, if its object can be saved, where it may take one.
+    fn saves_by(&self, at: ProcNo, from: ProcNo, parcel: &Parcel) -> bool
+        requires at { at < self.now.size }
+        requires from { from < self.now.size }
+        requires may { ((state_of self.now at).up && is_none (inst_of (state_of self.now at).side)) ≡ true }
+        ensures { result ≡ saves_by (state_of self.now at) from parcel.now }
+    {
+        let Some(label) = label_of_ask_to_save(parcel) else {
+            return false;
+        };
+        let tables = self.manager(at).process().tables();
+        tables.must_take(from, label)
     }
 
     /// Whether no process is in an instance.
@@ -184,28 +202,18 @@ impl System {
     pub fn is_quiet(&self) -> bool
         ensures { IsTrue result ↔ IsQuietSystem self.now }
     {
-        self.channels.channels().receivers().first().is_none()
+        self.channels.receivers().first().is_none()
             && self.holds_none()
             && self.all_outside()
     }
 }
 
 /// Whether a manager is in no instance.
+#[tactic(auto, using(crate::proofs::Managed::outside_for, crate::proofs::Managed::alone_for, crate::proofs::Managed::inst_for))]
 fn is_outside(manager: &Manager) -> bool
     ensures { result ≡ is_none (inst_of (process_in manager.now).side) }
 {
     manager.in_inst().is_none() || manager.process().in_inst().is_none()
-}
-
-/// Whether a parcel makes a process take its tentative checkpoint, if its object can be saved.
-fn saves_by(process: &Process, from: ProcNo, parcel: &Parcel) -> bool
-    requires { from < process.now.tables.processes }
-    ensures { result ≡ saves_by process.now from parcel.now }
-{
-    let Some(label) = label_of_ask_to_save(parcel) else {
-        return false;
-    };
-    process.joins_checkpoint(true, from, label)
 }
 
 /// The label of an ask to take part in a checkpoint, if a parcel is one.

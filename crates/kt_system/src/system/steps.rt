@@ -168,7 +168,7 @@ impl System {
             *acts = self.acts();
             return Ok(());
         }
-        let Some(parcel) = self.channels.channels().front(from, at).copied() else {
+        let Some(parcel) = self.channels.front(from, at).copied() else {
             *acts = NO_ACTS;
             return Ok(());
         };

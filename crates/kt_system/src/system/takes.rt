@@ -32,7 +32,7 @@ impl System {
         ensures within { IfSome result (λ at. at < self.now.size) }
         ensures first { IsFirstNumber (WithSome (is_sent self.now)) result }
     {
-        self.channels.channels().receivers().first()
+        self.channels.receivers().first()
     }
 
     /// The least process that can take a parcel.
@@ -49,7 +49,7 @@ impl System {
         ensures sent { (q : ℕ) → has result q ≡ is_sent self.now at q }
         ensures within { (q : ℕ) → has result q ≡ true → q < self.now.size }
     {
-        self.channels.channels().senders(at)
+        self.channels.senders(at)
     }
 
     /// The processes of which parcels are held for one, where it is in no rollback.
@@ -91,7 +91,7 @@ impl System {
         ensures others { (at from : ℕ) → has result at ≡ false → can_take self.now at from ≡ false }
         ensures within { (at : ℕ) → has result at ≡ true → at < self.now.size }
     {
-        joined(self.channels.channels().receivers(), self.holders)
+        joined(self.channels.receivers(), self.holders)
     }
 
     /// The least process that can take a parcel, and the least from which it can.

@@ -4,6 +4,7 @@ ghost use Rattle.std.specs.Prelude.{◌≡◌, ◌≢◌, ◌<◌, ◌-◌, ◌^
 ghost use Rattle.kt_base.specs.Sets.{has};
 ghost use Rattle.kt_meaning.specs.Past.{is_rollback_kind};
 ghost use Rattle.kt_tables.specs.Calls.{Speaks};
+ghost use Rattle.kt_process.specs.ProcessStates.{part_of_side, IsNumbered};
 ghost use Rattle.kt_manager.specs.Managers.{ShowsManager};
 ghost use Rattle.kt_manager.specs.Messages.{has_some};
 ghost use Rattle.kt_manager.specs.Inboxes.{held_of};
@@ -108,11 +109,12 @@ impl System {
         ensures done { (y : NodeState) → ShowsManager (manager_of self.old at) y → 0 < label →
             Speaks ((taking_message y from label body).state.calls) → OnOk result (DoneAt self.new at (taking_message y from label body)) }
     {
+        let manager = &mut self.managers[at.index()];
         let Some(label) = Count::new(label.get()) else {
             self.effects.clear();
+            note(&mut self.holders, at, manager);
             return Ok(());
         };
-        let manager = &mut self.managers[at.index()];
         manager.take_message(from, label, body, &mut self.effects)?;
         note(&mut self.holders, at, manager);
         Ok(())
@@ -150,6 +152,7 @@ impl System {
         let manager = &mut self.managers[at.index()];
         if manager.awaited() == 0 {
             self.effects.clear();
+            note(&mut self.holders, at, manager);
             return;
         }
         manager.take_reply(&name_of(inst), willing, &mut self.effects);
@@ -167,6 +170,7 @@ impl System {
         let manager = &mut self.managers[at.index()];
         if !manager.is_in(&name) {
             self.effects.clear();
+            note(&mut self.holders, at, manager);
             return;
         }
         manager.take_decision(&name, commit, &mut self.effects);
@@ -215,7 +219,9 @@ fn note(holders: &mut ProcSet, p: ProcNo, manager: &Manager)
     ensures some { has holders.new p ≡ true → (q : ℕ) × (has_some (held_of manager.now.inbox q) ≡ true) }
     ensures none { has holders.new p ≡ false → (q : ℕ) → has_some (held_of manager.now.inbox q) ≡ false }
     ensures others { (q : ℕ) → q ≢ p → has holders.new q ≡ has holders.old q }
+    ensures numbered { IsNumbered (part_of_side manager.now.process.side) }
 {
+    let _ready = manager.process().is_ready();
     *holders = if manager.inbox().holds().first().is_some() {
         holders.with(p)
     } else {

@@ -1,0 +1,47 @@
+-- A step of a manager, carried out, is the machine's.
+use Rattle.std.proofs.Common.{◌≡◌, ◌<◌, ◌+◌, ℕ, List, length, ap, subst, sym, ◌∙◌}
+use Rattle.kt_fifo.specs.Channels.{channel}
+use Rattle.kt_spacetime.specs.declared.event.Event.{Event}
+use Rattle.kt_protocol.specs.States.{ProtocolStep}
+use Rattle.kt_meaning.specs.Past.{at_one}
+use Rattle.kt_machine.specs.Seen.{SeenLists, Seen}
+use Rattle.kt_machine.specs.Transition.{transition}
+use Rattle.kt_manager.specs.Nodes.{Doing}
+use Rattle.kt_manager.specs.Managers.{ManagerState, ShowsManager}
+use Rattle.kt_system.specs.Carried.{MakesStep, carried, number_of}
+use Rattle.kt_system.specs.CarriedEffects.{put_into, written, HasRisingAsks}
+use Rattle.kt_system.specs.MessageNumbers.{WasSent, SendsNone, HaveNumbers}
+use Rattle.kt_system.specs.SentNumbers.{Sent, sent_by}
+use Rattle.kt_system.specs.Shown.{ShowsState}
+use Rattle.kt_system.specs.Steps.{IsStepped, DoneAt}
+use Rattle.kt_system.specs.Systems.{Whole, no_manager, manager_of, numbers_in}
+use Rattle.std.proofs.Common.{get_or}
+use Rattle.kt_process.specs.ProcessStates.{part_of_side, IsNumbered}
+use Rattle.kt_system.proofs.CarryingEffects.{channels_done, log_done}
+use Rattle.kt_system.proofs.Knowing.{Knows, inst_few}
+use Rattle.kt_system.proofs.Stepping.{shows_step}
+use Rattle.kt_system.proofs.SystemNodes.{nodes_after}
+
+managers_same : (b w : Whole) → w.managers ≡ b.managers → (q : ℕ) → manager_of w q ≡ manager_of b q
+unfolding manager_of
+managers_same b w e q = ap (λ (l : List ManagerState). get_or l q no_manager) e
+
+-- from a to b the manager of p steps, and from b to w what it told is put into channels and written
+pub shows_stepped : (a b w : Whole) (v taken : Seen) (p : ℕ) (d : Doing) (x : ProtocolStep) (h : ShowsState a v) → p < a.size → IsStepped a b p → DoneAt b p d → MakesStep v taken p (numbers_in a) d x → Knows a.sent d →
+    SendsNone (WasSent a.sent.first (sent_by a.sent)) (h.nodes p) d → HaveNumbers a.sent.first (sent_by a.sent) taken.channel → taken.held ≡ v.held → taken.kept ≡ v.kept → taken.log ≡ v.log →
+    HasRisingAsks b.told.parcels → w.size ≡ b.size → w.managers ≡ b.managers → w.sent ≡ b.sent → w.begun ≡ taken.begun →
+    channel w.channels ≡ put_into taken.channel p (length v.log + 1) b.told.parcels → w.rows.rows ≡ written v.log p (numbers_in a) b.told → ShowsState w (transition v x)
+shows_stepped a b w v taken p d x h here t done made knows none nums held kept log rising size managers sent begun channels rows =
+    shows_step a w v taken p d x h
+    (size ∙ t.turned.size)
+    (λ q n. managers_same b w managers q ∙ t.turned.others q n)
+    (sent ∙ t.turned.sent)
+    made
+    (subst (λ (m : ManagerState). ShowsManager m d.state) (sym (managers_same b w managers p)) done.state)
+    (inst_few d.state.inst knows.inst)
+    (subst (λ (m : ManagerState). IsNumbered (part_of_side m.process.side)) (sym (managers_same b w managers p)) t.numbered)
+    (nodes_after a.sent.first (sent_by a.sent) v p h.nodes h.has_nodes (subst (λ (n : ℕ). p < n) h.processes here) taken d x made none nums)
+    held kept
+    (channels ∙ (ap (λ (l : List Event). put_into taken.channel p (length l + 1) b.told.parcels) (sym log) ∙ channels_done (manager_of b p) b.told d done taken p (numbers_in a) rising))
+    (rows ∙ (ap (λ (l : List Event). written l p (numbers_in a) b.told) (sym log) ∙ log_done (manager_of b p) b.told d done taken p (numbers_in a)))
+    begun
