@@ -19,3 +19,4 @@ pub mod Carrying
 pub mod Telling
 pub mod Rest
 pub mod Tallying
+pub mod Turning

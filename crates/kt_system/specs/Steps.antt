@@ -1,7 +1,8 @@
 -- What a manager's step tells, and what becomes of that.
-use Rattle.std.specs.Prelude.{◌≡◌, ℕ, ◌<◌, ◌==◌, if◌then◌else◌, Bool, true, Some, All, length, slice_get}
+use Rattle.std.specs.Prelude.{◌≡◌, ℕ, ◌<◌, ◌==◌, if◌then◌else◌, ◌++◌, Bool, true, Some, List, All, length, slice_get}
 use Rattle.kt_base.specs.Sets.{has}
 use Rattle.kt_base.specs.Numbers.{IsInstNo}
+use Rattle.kt_spacetime.specs.declared.event.Event.{Event}
 use Rattle.kt_spacetime.specs.declared.names.InstName.{InstName}
 use Rattle.kt_spacetime.specs.declared.named_rows.NamedCause.{NamedCause}
 use Rattle.kt_spacetime.specs.declared.named_rows.NamedCause.TheVariants.{Busy, Down, NoSave}
@@ -139,3 +140,9 @@ hearing y q able (in_code.Decide k c) = if is_in y.inst (numbered_name k) then c
 -- a parcel is the front of a channel
 abbrev pub IsFront : Whole → ℕ → ℕ → Parcel → Type 0
 IsFront w at from x = slice_get (channel w.channels from at) 0 ≡ Some x
+
+-- a log has so many rows more
+pub record HasMoreRows (count : ℕ) (old new : List Event) : Type 0 where
+  pub more : List Event
+  pub rows : new ≡ old ++ more
+  pub count_is : length more ≡ count

@@ -1,21 +1,24 @@
 //! Room for a step, and what becomes of what it tells.
 
-ghost use Rattle.std.specs.Prelude.{◌≡◌, ◌<◌, ◌≤◌, ◌+◌, ◌^◌, [], All, OnOk, drop, length};
+ghost use Rattle.std.specs.Prelude.{◌≡◌, ◌<◌, ◌≤◌, ◌+◌, ◌^◌, ◌++◌, [], All, OnOk, drop, length, map};
 ghost use Rattle.kt_fifo.specs.Channels.{channel, at_pair};
 ghost use Rattle.kt_manager.specs.ShownActs.{acts_shown};
+ghost use Rattle.kt_system.specs.Carried.{event_of};
 ghost use Rattle.kt_system.specs.CarriedEffects.{put_into, written, HasRisingAsks};
-ghost use Rattle.kt_system.specs.MessageNumbers.{with_number};
+ghost use Rattle.kt_system.specs.MessageNumbers.{number_by, with_number};
 ghost use Rattle.kt_system.specs.SentNumbers.{sent_by, HasRoomToSend};
-ghost use Rattle.kt_system.specs.Steps.{AreWithin, AreKnownParcels, IsKnownRow, IsKnown, IsPopped, IsPut, IsWritten, IsCarriedOut};
+ghost use Rattle.kt_system.specs.Steps.{AreWithin, AreKnownParcels, HasMoreRows, IsKnownRow, IsKnown, IsPopped, IsPut, IsWritten, IsCarriedOut};
 ghost use Rattle.kt_system.specs.Systems.{numbers_in, IsSameSystem, LogGrows};
 ghost use Rattle.kt_system.specs.Tallies.{TalliesPut, front};
 
 use super::System;
 use crate::names::{event_of, number_of, parcel_of};
 use crate::puts::{count, count_one, put_asks, put_decisions};
+use crate::sent::SentRows;
 use kt_base::{Memory, MsgNo, ProcNo};
 use kt_manager::{Effects, Parcels};
 use kt_plan::Act;
+use kt_spacetime::{NamedEvent, SpaceTime};
 
 /// Nothing to be done to an object.
 pub(super) const NO_ACTS: [Act; 2] = [Act::Nothing, Act::Nothing];
@@ -126,10 +129,7 @@ impl System {
             written self.old.rows.rows p (numbers_in self.old) self.old.told }
         ensures grows { LogGrows 4 self.old self.new }
     {
-        for row in self.effects.rows() {
-            let event = event_of(p, &self.sent, row);
-            self.log.push_reserved(event);
-        }
+        write_all(&mut self.log, &self.sent, p, self.effects.rows());
     }
 
     /// What a step of a process told is put into channels and written.
@@ -173,4 +173,16 @@ fn acts_of(effects: &Effects) -> [Act; 2]
         return [told[0], Act::Nothing];
     }
     [told[0], told[1]]
+}
+
+/// Writes these rows of a process, in room made before.
+fn write_all(log: &mut SpaceTime, sent: &SentRows, p: ProcNo, rows: &[NamedEvent])
+    requires spare { length rows.now ≤ log.old.spare }
+    requires few { length log.old.rows + length rows.now ≤ 2 ^ 24 }
+    ensures rows { All (IsKnownRow sent.now) rows.now → log.new.rows ≡ log.old.rows ++ map (event_of p (number_by sent.now.first (sent_by sent.now))) rows.now }
+    ensures grows { HasMoreRows (length rows.now) log.old.rows log.new.rows }
+{
+    for row in rows {
+        log.push_reserved(event_of(p, sent, row));
+    }
 }
