@@ -20,3 +20,5 @@ pub mod Telling
 pub mod Rest
 pub mod Tallying
 pub mod Turning
+pub mod Written
+pub mod SameSystems

@@ -1,4 +1,4 @@
-use Rattle.std.proofs.Common.{◌≡◌, ◌+◌, ◌++◌, ℕ, take, map}
+use Rattle.std.proofs.Common.{◌≡◌, ◌+◌, ◌++◌, take, map}
 use Rattle.std.specs.Prelude.{All}
 use Rattle.kt_system.specs.Carried.{event_of}
 use Rattle.kt_system.specs.MessageNumbers.{number_by}
