@@ -2,7 +2,7 @@
 use Rattle.std.proofs.Common.{◌≡◌, ◌∙◌, ℕ, Bool, true, false, not, Some, None, List, [], ◌∷◌, map, refl, ap}
 use Rattle.std.specs.Prelude.{◌&&◌, if◌then◌else◌}
 use Rattle.kt_protocol.specs.States.{ProtocolStep, Send, Begin, Fail, Take}
-use Rattle.kt_manager.specs.Nodes.{NodeState, Doing, nothing, is_in_rollback}
+use Rattle.kt_manager.specs.Nodes.{Doing, nothing, is_in_rollback}
 use Rattle.kt_node.specs.Inputs.{Input}
 use Rattle.kt_node.specs.Inputs as input
 use Rattle.kt_node.specs.NodeSteps.{is_step, node_after}

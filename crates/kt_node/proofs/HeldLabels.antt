@@ -1,11 +1,10 @@
 -- The label of a message that is held, behind those that are kept.
 use Rattle.std.specs.Prelude.{Option, map, slice_get}
 use Rattle.std.specs.Option.{option_map}
-use Rattle.std.proofs.Common.{◌≡◌, ◌∙◌, ℕ, suc, ◌+◌, List, [], ◌∷◌, ◌++◌, length, refl, sym, ap, arith}
+use Rattle.std.proofs.Common.{◌≡◌, ◌∙◌, ℕ, suc, ◌+◌, List, [], ◌∷◌, ◌++◌, length, sym, ap, arith}
 use Rattle.std.proofs.lemmas.List.{length-map}
 use Rattle.std.proofs.lemmas.Option.{slice_get-map}
 use Rattle.kt_manager.specs.declared.received.Item.{Item}
-use Rattle.kt_manager.specs.declared.parcels.NodeParcel.{NodeParcel}
 use Rattle.kt_manager.specs.Inboxes.{InboxLists, held_of}
 use Rattle.kt_manager.specs.Managers.{as_parcel}
 use Rattle.kt_node.specs.Meetings.{label_of}

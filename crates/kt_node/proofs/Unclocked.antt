@@ -11,7 +11,7 @@ use Rattle.kt_spacetime.specs.declared.named_rows.NamedEvent.{NamedEvent}
 use Rattle.kt_spacetime.specs.declared.named_rows.NamedRow.{NamedRow}
 use Rattle.kt_meaning.specs.Names.{row_of}
 use Rattle.kt_manager.specs.declared.parcels.NodeParcel.{NodeParcel}
-use Rattle.kt_manager.specs.Nodes.{NodeState, Doing, nothing, is_in_rollback}
+use Rattle.kt_manager.specs.Nodes.{Doing, nothing, is_in_rollback}
 use Rattle.kt_node.specs.Inputs.{Input}
 use Rattle.kt_node.specs.Inputs as input
 use Rattle.kt_node.specs.NodeSteps.{is_step, node_after}

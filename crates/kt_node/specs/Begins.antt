@@ -1,5 +1,5 @@
 -- When a command begins an instance, and what beginning and joining one leave of a manager's guards.
-use Rattle.std.specs.Prelude.{ℕ, ◌+◌, ◌&&◌, ◌||◌, Bool, false, Option, is_none}
+use Rattle.std.specs.Prelude.{◌+◌, ◌&&◌, ◌||◌, Bool, false, Option, is_none}
 use Rattle.kt_spacetime.specs.declared.names.InstName.{InstName}
 use Rattle.kt_manager.specs.Nodes.{NodeState}
 

@@ -1,5 +1,5 @@
 -- What a manager with its guards holds, and which state of a node that is.
-use Rattle.std.specs.Prelude.{◌≡◌, ℕ, ◌<◌, ◌≤◌, ◌^◌, Bool, Option, None, List, slice_index_or}
+use Rattle.std.specs.Prelude.{◌≡◌, ℕ, ◌<◌, ◌≤◌, ◌^◌, Option, None, List, slice_index_or}
 use Rattle.kt_base.specs.Sets.{has}
 use Rattle.kt_process.specs.ProcessStates.{ProcessState}
 use Rattle.kt_process.specs.Shown.{IsSeenAs}

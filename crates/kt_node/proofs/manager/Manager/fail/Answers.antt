@@ -1,5 +1,4 @@
 use Rattle.std.proofs.Common.{refl}
-use Rattle.kt_node.specs.Managers.{HasGuards}
 use Rattle.kt_node.proofs.Guards.{sound_around, core_inside, guards_inside, guarded_on, fail_guarded, done_guarded}
 use Rattle.kt_node.proofs.manager.Manager.fail.Goals as goal
 

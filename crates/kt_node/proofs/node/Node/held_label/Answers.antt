@@ -1,4 +1,4 @@
-use Rattle.std.proofs.Common.{◌≡◌, ◌∙◌, ◌+◌, ◌≤◌, length, arith, ap}
+use Rattle.std.proofs.Common.{◌≡◌, ◌∙◌, ◌≤◌, length, arith, ap}
 use Rattle.std.specs.Prelude.{Some, None, ◌-◌, map, slice_get}
 use Rattle.kt_manager.specs.Inboxes.{InboxLists, kept_of, held_of}
 use Rattle.kt_manager.specs.Managers.{as_parcel}
