@@ -14,16 +14,13 @@ use Rattle.kt_system.specs.MessageNumbers.{number_by, WasSent, SendsNone, HaveNu
 use Rattle.kt_system.specs.SentNumbers.{Sent, sent_by}
 use Rattle.kt_system.specs.Shown.{ShowsState}
 use Rattle.kt_system.specs.Steps.{IsStepped, DoneAt, IsCarriedOut, IsKnown}
-use Rattle.kt_system.specs.Systems.{Whole, no_manager, manager_of, numbers_in}
+use Rattle.kt_system.specs.Systems.{Whole, manager_of, numbers_in}
 use Rattle.kt_process.specs.ProcessStates.{part_of_side, IsNumbered}
 use Rattle.kt_system.proofs.CarryingEffects.{channels_done, log_done}
 use Rattle.kt_system.proofs.Knowing.{Knows, is_known, inst_few}
+use Rattle.kt_system.proofs.Managed.{managers_same}
 use Rattle.kt_system.proofs.Stepping.{shows_step}
 use Rattle.kt_system.proofs.SystemNodes.{nodes_after}
-
-managers_same : (b w : Whole) → w.managers ≡ b.managers → (q : ℕ) → manager_of w q ≡ manager_of b q
-unfolding manager_of
-managers_same b w e q = ap (λ (l : List ManagerState). get_or l q no_manager) e
 
 -- from a to b the manager of p steps, and from b to w what it told is put into channels and written
 pub shows_stepped : (a b w : Whole) (v taken : Seen) (p : ℕ) (d : Doing) (x : ProtocolStep) (h : ShowsState a v) → p < a.size → IsStepped a b p → DoneAt b p d → MakesStep v taken p (numbers_in a) d x → Knows a.sent d →

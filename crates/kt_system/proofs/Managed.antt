@@ -89,6 +89,11 @@ empty_of number (x ∷ xs) e = absurd (cc (e))
 pub holds_nothing : (w : Whole) (q p : ℕ) → holds_of w p q ≡ false → held_in w q p ≡ []
 holds_nothing w q p e = empty_of (numbers_in w q) (held_of (manager_of w p).inbox q) e
 
+-- the same managers
+pub managers_same : (a b : Whole) → b.managers ≡ a.managers → (p : ℕ) → manager_of b p ≡ manager_of a p
+unfolding manager_of
+managers_same a b e p = ap (λ (l : List ManagerState). get_or l p no_manager) e
+
 -- what is sound stays so where managers, channels and numbers are of as many processes
 pub sound_same : (a b : Whole) (h : ℕ) → IsSoundSystem a h → b.size ≡ a.size → b.managers ≡ a.managers → b.channels.processes ≡ a.channels.processes → length b.sent.lists ≡ length a.sent.lists → b.begun ≡ a.begun → IsSoundSystem b h
 sound_same a b h s size managers channels sent begun = record {
@@ -103,8 +108,7 @@ sound_same a b h s size managers channels sent begun = record {
 }
   where
     same : (p : ℕ) → manager_of b p ≡ manager_of a p
-    unfolding manager_of
-    same p = ap (λ (l : List ManagerState). get_or l p no_manager) managers
+    same = managers_same a b managers
 
 -- no manager is in an instance
 abbrev pub is_out : ManagerState → Bool

@@ -1,12 +1,13 @@
 -- A system in which only spare room has changed.
-use Rattle.std.proofs.Common.{◌≡◌, ℕ, List, get_or, refl, ap, subst, sym}
+use Rattle.std.proofs.Common.{◌≡◌, ℕ, refl, ap, subst, sym}
 use Rattle.kt_fifo.specs.Channels.{channel}
 use Rattle.kt_manager.specs.Inboxes.{held_of, kept_of}
 use Rattle.kt_manager.specs.Managers.{ManagerState, IsSameManager, as_parcels}
 use Rattle.kt_system.specs.Carried.{numbered_each}
 use Rattle.kt_system.specs.MessageNumbers.{number_by}
 use Rattle.kt_system.specs.SentNumbers.{sent_by}
-use Rattle.kt_system.specs.Systems.{Whole, IsSameSystem, no_manager, manager_of, process_in}
+use Rattle.kt_system.specs.Systems.{Whole, IsSameSystem, manager_of, process_in}
+use Rattle.kt_system.proofs.Managed.{managers_same}
 
 same_manager : (m : ManagerState) → IsSameManager m m
 same_manager m = record { me = refl; process = refl; inst = refl; held = refl; kept = refl }
@@ -28,5 +29,4 @@ same_system a b seen v size managers channels rows begun put first sent = subst 
 })
   where
     same : (p : ℕ) → manager_of b p ≡ manager_of a p
-    unfolding manager_of
-    same p = ap (λ (l : List ManagerState). get_or l p no_manager) managers
+    same = managers_same a b managers
