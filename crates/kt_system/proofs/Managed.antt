@@ -18,7 +18,7 @@ use Rattle.kt_manager.specs.Messages.{has_some}
 use Rattle.kt_manager.specs.declared.received.Item.{Item}
 use Rattle.kt_system.specs.Carried.{numbered_each}
 use Rattle.kt_system.specs.Reads.{awaited_of}
-use Rattle.kt_system.specs.Systems.{Whole, no_manager, manager_of, side_for, inst_in_range, held_in, holds_of, numbers_in, IsSoundSystem}
+use Rattle.kt_system.specs.Systems.{Whole, no_manager, manager_of, side_for, inst_in_range, held_in, holds_of, numbers_in, IsSoundSystem, process_in, state_of}
 
 -- who stands at a place
 pub manager_at : (a seen : Whole) (h p i : ℕ) (x : ManagerState) → a ≡ seen → IsSoundSystem a h → p < seen.size → i ≡ p → x ≡ get_or a.managers i x → x ≡ manager_of seen p

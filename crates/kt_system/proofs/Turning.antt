@@ -10,6 +10,10 @@ use Rattle.kt_manager.specs.Messages.{has_some}
 use Rattle.kt_system.specs.SentNumbers.{Sent}
 use Rattle.kt_system.specs.Systems.{Whole, no_manager, manager_of, holds_of, IsSoundSystem}
 
+-- who is set at a place stands there
+pub set_here : (xs : List ManagerState) (p i : ℕ) (m : ManagerState) → i ≡ p → p < length xs → get_or (set xs i m) p no_manager ≡ m
+set_here xs p i m e low = ap (λ (z : ℕ). get_or (set xs z m) p no_manager) e ∙ get_or-set_same xs p m no_manager low
+
 -- the manager at a place is another one
 module _ (a b : Whole) (p i : ℕ) (m : ManagerState) (e : i ≡ p) (managers : b.managers ≡ set a.managers i m) (low : p < length a.managers) where
   pub turned_here : manager_of b p ≡ m
