@@ -122,4 +122,5 @@ pub all_outside_is : (a seen : Whole) (h : ℕ) → a ≡ seen → IsSoundSystem
 unfolding manager_of
 all_outside_is a seen h v s = subst (λ (w : Whole). (list_all is_out a.managers ≡ true) ↔ ((p : ℕ) → p < w.size → is_none (inst_of (state_of w p).side) ≡ true)) v (
   (λ e p l. true_from_ne_false _ (λ f. let k = list_all_at is_out a.managers p no_manager (let z = s.managers in omega (arith, l, z)) f in cc (k, e))),
-  λ g. all_out a.managers (λ i l. g i (let z = s.managers in omega (arith, l, z))))
+  λ g. all_out a.managers (λ i l. g i (let z = s.managers in omega (arith, l, z))),
+)

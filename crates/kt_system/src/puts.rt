@@ -60,13 +60,7 @@ pub(crate) fn put_asks(
 }
 
 /// So many asks, replies and decisions of an instance were put.
-pub(crate) fn count(
-    tallies: &mut Vec<Tally>,
-    inst: InstNo,
-    asks: u32,
-    replies: u32,
-    decisions: u32,
-)
+pub(crate) fn count(tallies: &mut Vec<Tally>, inst: InstNo, asks: u32, replies: u32, decisions: u32)
     ensures { HaveCounted inst asks replies decisions tallies.old.items tallies.new.items }
 {
     let Some(tally) = tallies.get_mut(inst.index()) else {

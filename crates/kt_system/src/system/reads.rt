@@ -202,9 +202,7 @@ impl System {
     pub fn is_quiet(&self) -> bool
         ensures { IsTrue result ↔ IsQuietSystem self.now }
     {
-        self.channels.receivers().first().is_none()
-            && self.holds_none()
-            && self.all_outside()
+        self.channels.receivers().first().is_none() && self.holds_none() && self.all_outside()
     }
 }
 

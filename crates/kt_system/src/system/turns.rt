@@ -100,7 +100,13 @@ impl System {
     }
 
     /// A process hears a message.
-    fn hear_message(&mut self, at: ProcNo, from: ProcNo, label: Label, body: i64) -> Result<(), Memory>
+    fn hear_message(
+        &mut self,
+        at: ProcNo,
+        from: ProcNo,
+        label: Label,
+        body: i64,
+    ) -> Result<(), Memory>
         requires at { at < self.old.size }
         requires from { from < self.old.size }
         requires first { is_held self.old at from ≡ false }
