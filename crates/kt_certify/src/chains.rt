@@ -21,10 +21,18 @@ fn link(walk: &Walk, inst: InstNo, kind: Kind, p: ProcNo, q: ProcNo) -> Option<M
     let _q = q.get();
     match kind {
         Kind::Checkpoint => {
+            if !walk.may_link(p, q) {
+                return None;
+            }
             let bound = walk.position(inst, q).unwrap_or(0);
             walk.link(p, q, walk.permanent(p), bound)
         }
-        Kind::Rollback => walk.link(q, p, walk.permanent(q), walk.length(p)),
+        Kind::Rollback => {
+            if !walk.may_link(q, p) {
+                return None;
+            }
+            walk.link(q, p, walk.permanent(q), walk.length(p))
+        }
     }
 }
 

@@ -1,6 +1,6 @@
 //! Logs written as text.
 
-ghost use Rattle.std.specs.Prelude.{◌≡◌, ◌≤◌, ◌+◌, [], ◌∷◌, ◌++◌, codes, length, map, OnOk, OnErr};
+ghost use Rattle.std.specs.Prelude.{◌≡◌, ◌≤◌, ◌<◌, ◌+◌, [], ◌∷◌, ◌++◌, codes, length, map, OnOk, OnErr};
 ghost use Rattle.std.specs.Fmt.{decimal, signed_decimal};
 ghost use Rattle.std.specs.Io.KnownBytes.{Appends};
 ghost use Rattle.kt_base.specs.declared.words.Cause.TheVariants.{Busy};
@@ -70,16 +70,35 @@ fn put_fields(line: &mut Line, row: Event)
 {
     match row {
         Event::Sent { p, to, body } => put_sent(line, p, to, body),
-        Event::Received { p, from, msg } => put_taken(line, b"received", p, from, msg),
-        Event::Dropped { p, from, msg } => put_taken(line, b"dropped", p, from, msg),
-        Event::Began { p, inst, kind } => put_joined(line, b"began", p, inst, kind_text(kind)),
-        Event::Took { p, inst } => put_joined(line, b"took", p, inst, b"-"),
-        Event::Ready { p, inst } => put_joined(line, b"ready", p, inst, b"-"),
+        Event::Received { p, from, msg } => {
+            put_taken(line, p, from, msg);
+            line.put(b"received");
+        }
+        Event::Dropped { p, from, msg } => {
+            put_taken(line, p, from, msg);
+            line.put(b"dropped");
+        }
+        Event::Began { p, inst, kind } => {
+            put_joined(line, p, inst, kind_text(kind));
+            line.put(b"began");
+        }
+        Event::Took { p, inst } => {
+            put_joined(line, p, inst, b"-");
+            line.put(b"took");
+        }
+        Event::Ready { p, inst } => {
+            put_joined(line, p, inst, b"-");
+            line.put(b"ready");
+        }
         Event::Unwilling { p, inst, cause } => put_unwilling(line, p, inst, cause),
         Event::Decided { p, inst, commit } => {
-            put_joined(line, b"decided", p, inst, decision_text(commit))
+            put_joined(line, p, inst, decision_text(commit));
+            line.put(b"decided");
         }
-        Event::Closed { p, inst } => put_joined(line, b"closed", p, inst, b"-"),
+        Event::Closed { p, inst } => {
+            put_joined(line, p, inst, b"-");
+            line.put(b"closed");
+        }
         Event::Failed { p } => put_failed(line, p),
         Event::Refused { p, verb, cause } => put_refused(line, p, verb, cause),
     }
@@ -96,28 +115,29 @@ fn put_sent(line: &mut Line, p: ProcNo, to: ProcNo, body: i64)
     put_process(line, b"sent", p);
 }
 
-// A row that takes a message.
+// What follows the word of a row that takes a message.
 #[inline(always)]
-fn put_taken(line: &mut Line, word: &[u8], p: ProcNo, from: ProcNo, msg: MsgNo)
-    requires empty { length line.old ≤ 1 }
-    requires short { length word.now ≤ 9 }
-    ensures { line.new ≡ joined (word.now ∷ decimal p ∷ decimal from ∷ decimal msg ∷ []) ++ line.old }
+fn put_taken(line: &mut Line, p: ProcNo, from: ProcNo, msg: MsgNo)
+    requires { length line.old ≤ 1 }
+    ensures text { line.new ≡ 44 ∷ (joined (decimal p ∷ decimal from ∷ decimal msg ∷ []) ++ line.old) }
+    ensures length { length line.new ≤ 34 }
 {
     put_number(line, msg.get());
     put_number(line, u32::from(from.get()));
-    put_process(line, word, p);
+    put_number(line, u32::from(p.get()));
 }
 
-// A row of an instance.
+// What follows the word of a row of an instance.
 #[inline(always)]
-fn put_joined(line: &mut Line, word: &[u8], p: ProcNo, inst: InstNo, third: &[u8])
+fn put_joined(line: &mut Line, p: ProcNo, inst: InstNo, third: &[u8])
     requires empty { length line.old ≤ 1 }
-    requires short { (length word.now ≤ 9) × (length third.now ≤ 10) }
-    ensures { line.new ≡ joined (word.now ∷ decimal p ∷ decimal inst ∷ third.now ∷ []) ++ line.old }
+    requires short { length third.now ≤ 10 }
+    ensures text { line.new ≡ 44 ∷ (joined (decimal p ∷ decimal inst ∷ third.now ∷ []) ++ line.old) }
+    ensures length { length line.new ≤ 34 }
 {
     put_field(line, third);
     put_number(line, u32::from(inst.get()));
-    put_process(line, word, p);
+    put_number(line, u32::from(p.get()));
 }
 
 fn put_failed(line: &mut Line, p: ProcNo)
@@ -165,8 +185,36 @@ fn put_number(line: &mut Line, number: u32)
     ensures text { line.new ≡ 44 ∷ (decimal number ++ line.old) }
     ensures length { length line.new ≤ length line.old + 11 }
 {
-    line.put_decimal(number);
+    put_digits(line, number);
     line.put_byte(b',');
+}
+
+// The digits of a number; most are below 100, and are put without a call.
+#[inline(always)]
+fn put_digits(line: &mut Line, number: u32)
+    requires { length line.old ≤ 53 }
+    ensures text { line.new ≡ decimal number ++ line.old }
+    ensures length { length line.new ≤ length line.old + 10 }
+{
+    if number < 10 {
+        line.put_byte(b'0' + number as u8);
+    } else if number < 100 {
+        put_two_digits(line, number as u8);
+    } else {
+        line.put_decimal(number);
+    }
+}
+
+// The digits of a number of two digits.
+#[inline(always)]
+fn put_two_digits(line: &mut Line, number: u8)
+    requires short { length line.old ≤ 53 }
+    requires two { (10 ≤ number) × (number < 100) }
+    ensures text { line.new ≡ decimal number ++ line.old }
+    ensures length { length line.new ≡ length line.old + 2 }
+{
+    line.put_byte(b'0' + number % 10);
+    line.put_byte(b'0' + number / 10);
 }
 
 // A comma and a field.

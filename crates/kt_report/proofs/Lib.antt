@@ -7,3 +7,4 @@ pub mod InstanceFacts
 pub mod MessageFacts
 pub mod ReportFacts
 pub mod NameFacts
+pub mod ToldFacts

@@ -1,5 +1,5 @@
 -- What objects offer, after one more row.
-use Rattle.std.proofs.Common.{arith, ◌≡◌, ◌≢◌, ◌∙◌, ◌<◌, ◌≤◌, ◌+◌, ℕ, ℤ, Bool, true, false, List, [], ◌∷◌, ◌++◌, Option, Some, None, length, map, set, take, get_or, refl, sym, ap, subst, inl, inr, length-set}
+use Rattle.std.proofs.Common.{arith, ◌≡◌, ◌≢◌, ◌∙◌, ◌<◌, ◌≤◌, ◌+◌, ℕ, ℤ, Bool, true, false, List, [], ◌∷◌, ◌++◌, Option, Some, None, length, map, set, take, get_or, refl, sym, ap, inl, inr, length-set}
 use Rattle.std.specs.Prelude.{◌==◌, if◌then◌else◌, option_map, slice_get, slice_index}
 use Rattle.std.proofs.lemmas.Bool.{cases_eq}
 use Rattle.std.proofs.lemmas.Bool.Decides.{nat_tests}
@@ -12,8 +12,7 @@ use Rattle.kt_meaning.specs.Legal.{IsLegal}
 use Rattle.kt_meaning.proofs.Items.{item_there, get_set_same, get_set_other, some_same}
 use Rattle.kt_plan.specs.declared.steps.Act.{Act as PlainAct}
 use Rattle.kt_machine.specs.Done.{done}
-use Rattle.kt_object.specs.Value.{after, offered}
-use Rattle.kt_machine.specs.Values.{Act, Apply, Rules, Due, due, first_due, does, does_all, acts_of}
+use Rattle.kt_machine.specs.Values.{Act, Rules, Due, due, first_due, does_all, acts_of}
 use Rattle.kt_machine.specs.Offers.{offer}
 use Rattle.kt_machine.proofs.ActsAlong.{along}
 use Rattle.kt_report.specs.declared.offers.Offers.{Offers}
@@ -54,23 +53,6 @@ new_objects_show kinds = record {
     at : (p : ℕ) (o : Offers) (k : Option ℕ) → slice_get kinds p ≡ k → option_map new_offers k ≡ Some o → o ≡ offers_of (slice_index kinds p) (due (rules_of_kind (slice_index kinds p)) (done []) p)
     at p o None e f = absurd (cc)
     at p o (Some kind) e f = sym (some_same f) ∙ ap new_offers (sym (get_or_from_slice_get kinds p kind 0 e))
-
--- an object that is up takes a message in
-pub message_taken : (x : Offers) (kind : ℕ) (d : Due (List ℤ)) (from : ℕ) (body offer new : ℤ) → x ≡ offers_of kind d → x.now ≡ Some offer
-    → ((value : List ℤ) (from : ℕ) → offer ≡ offered x.kind value → new ≡ offered x.kind (after x.kind value from body))
-    → record x { now = Some new } ≡ offers_of kind (does (rules_of_kind kind) d (Apply from body))
-message_taken x kind d from body offer new h at follows = go d.object refl
-  where
-    go : (o : Option (List ℤ)) → d.object ≡ o → record x { now = Some new } ≡ offers_of kind (does (rules_of_kind kind) d (Apply from body))
-    go None e =
-        let no : Some offer ≡ None = sym at ∙ ap (λ (o : Offers). o.now) h ∙ ap (option_map (offered kind)) e in
-        absurd (cc)
-    go (Some v) e =
-        let same : x.kind ≡ kind = ap (λ (o : Offers). o.kind) h in
-        let was : offer ≡ offered kind v = some_same (sym at ∙ ap (λ (o : Offers). o.now) h ∙ ap (option_map (offered kind)) e) in
-        let is : new ≡ offered kind (after kind v from body) = subst (λ (k : ℕ). (value : List ℤ) (from : ℕ) → offer ≡ offered k value → new ≡ offered k (after k value from body)) same follows v from was in
-        let now : Some new ≡ option_map (offered kind) (option_map (λ v. after kind v from body) d.object) = ap Some is ∙ ap (λ (o : Option (List ℤ)). option_map (offered kind) (option_map (λ v. after kind v from body) o)) (sym e) in
-        λ j. record { kind = same j; now = now j; tentative = (h j).tentative; permanent = (h j).permanent }
 
 module _ (rows : List Event) (row : Event) (legal : IsLegal (rows ++ row ∷ [])) where
   -- the acts of a process at one more row

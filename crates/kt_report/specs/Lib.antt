@@ -5,3 +5,4 @@ pub mod Report
 pub mod Exact
 pub mod Shown
 pub mod Unwilling
+pub mod Told

@@ -20,6 +20,7 @@ pub(crate) struct Instance {
 }
 
 /// Notes what one more row says of the instances.
+#[inline(always)]
 pub(crate) fn note(instances: &mut Vec<Instance>, row: &Event) -> Result<(), Memory>
     ensures { OnOk result ((rows : List Event) → IsLegal (rows ++ row.now ∷ [])
         → ShowsReportInstances instances.old.items (past rows) → ShowsReportInstances instances.new.items (past (rows ++ row.now ∷ []))) }

@@ -11,6 +11,7 @@ mod objects;
 mod offers;
 mod refusals;
 mod replay;
+mod told;
 mod unwilling;
 mod words;
 mod writing;

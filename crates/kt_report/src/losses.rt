@@ -1,13 +1,12 @@
 //! The line of messages that did not arrive.
 
-ghost use Rattle.std.specs.Prelude.{◌≡◌, ◌≤◌, ◌<◌, ◌+◌, ◌^◌, ◌++◌, ◌∷◌, [], List, Some, true, false, length, count_by, OnOk, IfOk};
+ghost use Rattle.std.specs.Prelude.{◌≡◌, ◌≤◌, ◌<◌, ◌+◌, ◌^◌, ◌++◌, ◌∷◌, [], List, Some, true, false, length, OnOk, IfOk};
 ghost use Rattle.kt_spacetime.specs.declared.event.Event.{Event};
 ghost use Rattle.kt_meaning.specs.Past.{past};
 ghost use Rattle.kt_meaning.specs.Legal.{IsLegal};
 ghost use Rattle.kt_walk.specs.WalkOf.{WalkOf};
 ghost use Rattle.kt_report.specs.Exact.{is_lost, lost_in};
 ghost use Rattle.kt_report.specs.Lines.{losses_line};
-ghost use Rattle.kt_report.specs.Report.{is_drop};
 
 use crate::words::{end_line, push_word};
 use kt_base::{Memory, MsgNo};
@@ -81,15 +80,6 @@ fn is_lost(walk: &Walk, place: usize, row: Event) -> bool
         }),
         _ => false,
     }
-}
-
-/// How many messages were dropped.
-pub(crate) fn dropped(rows: &[Event]) -> usize
-    ensures { result ≡ count_by is_drop rows.now }
-{
-    rows.iter()
-        .filter(|row| matches!(row, Event::Dropped { .. }))
-        .count()
 }
 
 /// Gathers the line of how many messages were lost, and how many dropped.

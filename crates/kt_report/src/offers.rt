@@ -42,46 +42,34 @@ impl Offers {
         }
     }
 
-    /// What it offers once its process has done an act.
-    pub(crate) fn after(self, act: Act) -> Offers
-        ensures { (kind : ℕ) (d : Due (List ℤ)) → self ≡ offers_of kind d
-            → result ≡ offers_of kind (does_all (rules_of_kind kind) d (act_of act)) }
+    /// Its process does an act.
+    #[inline(always)]
+    pub(crate) fn act(&mut self, act: Act)
+        ensures { (kind : ℕ) (d : Due (List ℤ)) → self.old ≡ offers_of kind d
+            → self.new ≡ offers_of kind (does_all (rules_of_kind kind) d (act_of act)) }
     {
         match act {
-            Act::Nothing => self,
-            Act::Apply { body, .. } => self.after_message(body),
-            Act::Keep => Offers {
-                tentative: self.now,
-                ..self
-            },
-            Act::Promote => Offers {
-                tentative: None,
-                permanent: self.tentative.unwrap_or(self.permanent),
-                ..self
-            },
-            Act::Discard => Offers {
-                tentative: None,
-                ..self
-            },
-            Act::Restore => Offers {
-                now: Some(self.permanent),
-                ..self
-            },
-            Act::Drop => Offers { now: None, ..self },
+            Act::Nothing => {}
+            Act::Apply { body, .. } => self.take_in(body),
+            Act::Keep => self.tentative = self.now,
+            Act::Promote => {
+                self.permanent = self.tentative.unwrap_or(self.permanent);
+                self.tentative = None;
+            }
+            Act::Discard => self.tentative = None,
+            Act::Restore => self.now = Some(self.permanent),
+            Act::Drop => self.now = None,
         }
     }
 
-    // What it offers once it has taken in a message, where it is up.
-    fn after_message(self, body: i64) -> Offers
-        ensures { (kind : ℕ) (d : Due (List ℤ)) (from : ℕ) → self ≡ offers_of kind d
-            → result ≡ offers_of kind (does (rules_of_kind kind) d (Apply from body)) }
+    // It takes in a message, where it is up.
+    #[inline(always)]
+    fn take_in(&mut self, body: i64)
+        ensures { (kind : ℕ) (d : Due (List ℤ)) (from : ℕ) → self.old ≡ offers_of kind d
+            → self.new ≡ offers_of kind (does (rules_of_kind kind) d (Apply from body)) }
     {
-        match self.now {
-            Some(offer) => Offers {
-                now: Some(offer_after(self.kind, offer, body)),
-                ..self
-            },
-            None => self,
+        if let Some(offer) = self.now {
+            self.now = Some(offer_after(self.kind, offer, body));
         }
     }
 }

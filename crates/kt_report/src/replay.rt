@@ -49,6 +49,7 @@ impl Replay {
     }
 
     // Takes one more row after those before.
+    #[inline(always)]
     fn feed(&mut self, before: &[Event], row: &Event) -> Result<(), Memory>
         ensures fed { OnOk result (IsLegal (before.now ++ row.now ∷ []) → (kinds : List ℕ)
             → ReplayOf self.old kinds before.now → ReplayOf self.new kinds (before.now ++ row.now ∷ [])) }
@@ -73,6 +74,7 @@ fn new_objects(alloc: Global, kinds: &[u8]) -> Result<Vec<Offers>, Memory>
 }
 
 // What a row's process does to its object and its saved states, after the rows before.
+#[inline(always)]
 fn act_at(instances: &[Instance], before: &[Event], row: &Event) -> Act
     ensures { IsLegal (before.now ++ row.now ∷ []) → ShowsReportInstances instances.now (past before.now)
         → act_of result ≡ acts_of (done before.now) row.now }
@@ -110,6 +112,7 @@ fn body_in(row: Event) -> i64
 }
 
 // Does an act of a process to what its object offers.
+#[inline(always)]
 fn act_on(objects: &mut Vec<Offers>, p: ProcNo, act: Act)
     ensures shows { (kinds : List ℕ) (rows : List Event) (row : Event) → p ≡ process_of row
         → act_of act ≡ acts_of (done rows) row → IsLegal (rows ++ row ∷ []) → ShowsOffers objects.old.items kinds rows
@@ -123,6 +126,7 @@ fn act_on(objects: &mut Vec<Offers>, p: ProcNo, act: Act)
 }
 
 // Does an act that changes something.
+#[inline(always)]
 fn change(objects: &mut Vec<Offers>, p: ProcNo, act: Act)
     ensures shows { (kinds : List ℕ) (rows : List Event) (row : Event) → p ≡ process_of row
         → act_of act ≡ acts_of (done rows) row → IsLegal (rows ++ row ∷ []) → ShowsOffers objects.old.items kinds rows
@@ -131,6 +135,7 @@ fn change(objects: &mut Vec<Offers>, p: ProcNo, act: Act)
 {
     let place = p.index();
     if place < objects.len() {
-        objects[place] = objects[place].after(act);
+        let object = &mut objects[place];
+        object.act(act);
     }
 }

@@ -26,17 +26,13 @@ impl Model for Unwilling {
 }
 
 impl Unwilling {
-    /// Those of all rows.
-    pub(crate) fn in_rows(alloc: Global, rows: &[Event]) -> Result<Unwilling, Memory>
-        ensures { IfOk result (λ unwilling. (inst : ℕ) → IsInstNo inst → answers_to unwilling inst ≡ unwilling_of inst rows.now) }
+    /// Nobody was.
+    pub(crate) fn nobody(alloc: Global) -> Unwilling
+        ensures { result ≡ [] }
     {
-        let mut unwilling = Unwilling {
+        Unwilling {
             lists: Vec::new(alloc),
-        };
-        for row in rows {
-            unwilling.note(alloc, *row)?;
         }
-        Ok(unwilling)
     }
 
     /// Those of an instance.
@@ -50,18 +46,14 @@ impl Unwilling {
         }
     }
 
-    // Notes what a row says.
-    fn note(&mut self, alloc: Global, row: Event) -> Result<(), Memory>
-        ensures { OnOk result ((inst : ℕ) → IsInstNo inst → answers_to self.new inst ≡ answers_to self.old inst ++ unwilling_in inst row) }
-    {
-        match row {
-            Event::Unwilling { p, inst, cause } => self.add(alloc, inst, p, cause),
-            _ => Ok(()),
-        }
-    }
-
-    // Adds one.
-    fn add(&mut self, alloc: Global, inst: InstNo, p: ProcNo, cause: Cause) -> Result<(), Memory>
+    /// Adds one.
+    pub(crate) fn add(
+        &mut self,
+        alloc: Global,
+        inst: InstNo,
+        p: ProcNo,
+        cause: Cause,
+    ) -> Result<(), Memory>
         ensures { OnOk result ((other : ℕ) → IsInstNo other → answers_to self.new other ≡ answers_to self.old other ++ unwilling_in other (event.Unwilling p inst cause)) }
     {
         self.make_room(alloc, inst)?;

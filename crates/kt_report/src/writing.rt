@@ -7,15 +7,16 @@ ghost use Rattle.kt_meaning.specs.Legal.{IsLegal};
 ghost use Rattle.kt_report.specs.Exact.{lost_in, report_of};
 ghost use Rattle.kt_report.specs.Lines.{instance_lines, refusal_line};
 ghost use Rattle.kt_report.specs.Report.{WritesReport, WritesReportFront, report_with};
+ghost use Rattle.kt_report.specs.Told.{Tells};
 ghost use Rattle.kt_text.specs.Writing.{Sends, WritesFront};
 
 use crate::instances::write_instances;
-use crate::losses::{dropped, lost, push_losses};
+use crate::losses::{lost, push_losses};
 use crate::objects::push_objects;
 use crate::offers::Offers;
 use crate::refusals::write_refusals;
 use crate::replay::Replay;
-use crate::unwilling::Unwilling;
+use crate::told::Told;
 use kt_plan::{Names, Plan};
 use kt_spacetime::{Certificate, Event, SpaceTime};
 use kt_text::WriteFault;
@@ -112,28 +113,41 @@ fn write_parts<W: Write>(
         (report_with names.now rows.now certificates.now (map (λ o. o.now) objects.now) lost)) }
 {
     let mut text = new_text(alloc)?;
-    write_commands(alloc, &mut text, names, rows, certificates, writer)?;
+    let told = Told::of_rows(alloc, rows)?;
+    write_commands(alloc, &mut text, names, rows, &told, certificates, writer)?;
     push_objects(&mut text, names, objects)?;
-    push_losses(&mut text, lost, dropped(rows))?;
+    push_losses(&mut text, lost, told.dropped)?;
     write_rest(&mut text, writer)
 }
 
-// Writes or gathers the lines of instances and of refused commands.
+// Writes or gathers the lines of instances, and of refused commands where there are any.
 fn write_commands<W: Write>(
     alloc: Global,
     text: &mut Vec<u8>,
     names: &Names,
     rows: &[Event],
+    told: &Told,
     certificates: &[Certificate],
     writer: &mut W,
 ) -> Result<(), WriteFault>
+    requires { Tells told.now rows.now }
     ensures sent { OnOk result (Sends (W.contents writer.old) (W.contents writer.new) text.old.items text.new.items
         (flat_map (instance_lines names.now rows.now) certificates.now ++ flat_map (refusal_line names.now) rows.now)) }
     ensures stopped { OnErr result (WritesFront (W.contents writer.old) (W.contents writer.new)
         (text.old.items ++ (flat_map (instance_lines names.now rows.now) certificates.now
         ++ flat_map (refusal_line names.now) rows.now))) }
 {
-    let unwilling = Unwilling::in_rows(alloc, rows)?;
-    write_instances(alloc, text, names, rows, &unwilling, certificates, writer)?;
+    write_instances(
+        alloc,
+        text,
+        names,
+        rows,
+        &told.unwilling,
+        certificates,
+        writer,
+    )?;
+    if !told.refuses {
+        return Ok(());
+    }
     write_refusals(text, names, rows, writer)
 }

@@ -80,25 +80,15 @@ fn number_of(draft: &Draft, word: &[u8]) -> Option<ProcNo>
 fn word_in(word: &[u8]) -> Option<Word>
     ensures { result ≡ word_in word.now }
 {
-    if word == b"object".as_slice() {
-        return Some(Word::Object);
+    match word {
+        [b'o', b'b', b'j', b'e', b'c', b't'] => Some(Word::Object),
+        [b's', b'e', b'n', b'd'] => Some(Word::Send),
+        [b'c', b'h', b'e', b'c', b'k', b'p', b'o', b'i', b'n', b't'] => Some(Word::Checkpoint),
+        [b'r', b'o', b'l', b'l', b'b', b'a', b'c', b'k'] => Some(Word::Rollback),
+        [b'f', b'a', b'i', b'l'] => Some(Word::Fail),
+        [b's', b'e', b't', b't', b'l', b'e'] => Some(Word::Settle),
+        _ => None,
     }
-    if word == b"send".as_slice() {
-        return Some(Word::Send);
-    }
-    if word == b"checkpoint".as_slice() {
-        return Some(Word::Checkpoint);
-    }
-    if word == b"rollback".as_slice() {
-        return Some(Word::Rollback);
-    }
-    if word == b"fail".as_slice() {
-        return Some(Word::Fail);
-    }
-    if word == b"settle".as_slice() {
-        return Some(Word::Settle);
-    }
-    None
 }
 
 // Which kind of object a word names.
@@ -122,7 +112,7 @@ fn body_in(word: &[u8]) -> Result<Option<i64>, LineFault>
     ensures found { IfOk result (λ body. IsBodyWord word.now body) }
     ensures fault { IfErr result (λ f. (f ≡ LineFault.Number) × ((body : Option ℤ) → IsBodyWord word.now body → ⊥)) }
 {
-    if word == b".".as_slice() {
+    if let [b'.'] = word {
         return Ok(None);
     }
     match body_of(word) {

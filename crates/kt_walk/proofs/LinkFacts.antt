@@ -1,17 +1,23 @@
 -- A search among the messages from one process to another.
-use Rattle.std.proofs.Common.{◌≡◌, ℕ, ◌+◌, ◌*◌, ◌≤◌, ◌<◌, Option, Some, None, List, sym, subst, ◌∙◌}
+use Rattle.std.proofs.Common.{◌≡◌, ℕ, ◌+◌, ◌*◌, ◌/◌, ◌%◌, ◌≤◌, ◌<◌, Bool, true, false, Option, Some, None, List, [], length, refl, sym, subst, ◌∙◌, inl, inr}
 use Rattle.std.specs.Prelude.{IfSome}
 use Rattle.std.specs.List.{slice_get}
+use Rattle.std.proofs.lemmas.Bool.{cases_lt}
 use Rattle.kt_spacetime.specs.declared.event.Event.{Event}
 use Rattle.kt_meaning.specs.Past.{Past, past}
+use Rattle.kt_meaning.proofs.Items.{item_there}
 use Rattle.kt_rules.specs.Orphans.{IsAtMost}
 use Rattle.kt_walk.specs.declared.queue.Arrival.{Arrival}
 use Rattle.kt_walk.specs.Arrivals.{AreRisingArrivals}
-use Rattle.kt_walk.specs.Pairs.{PairState, received_from_of, ShowsPairs}
+use Rattle.kt_walk.specs.Pairs.{PairState, received_from_of, is_idle, AreInUse, ShowsPairs, new_pair_state, with_new}
+use Rattle.kt_walk.specs.Peers.{is_in}
 use Rattle.kt_walk.specs.Searching.{IsFoundPast}
 use Rattle.kt_walk.specs.WalkOf.{WalkOf}
 use Rattle.kt_walk.specs.WalkParts.{WalkParts}
 use Rattle.kt_walk.proofs.ItemPlaces.{mapped_get}
+use Rattle.kt_walk.proofs.NewPairs.{there, not_there}
+use Rattle.kt_walk.proofs.PairsFacts.{both_none}
+use Rattle.kt_walk.proofs.ReceivedFacts.{no_item}
 
 -- where arrivals rise
 there_where : (arrivals : List Arrival) (sent received : ℕ) (result : Option ℕ) → IfSome result (λ msg. AreRisingArrivals arrivals → (k : ℕ) × (a : Arrival) × (slice_get arrivals k ≡ Some a) × (a.msg ≡ msg) × (sent ≤ a.sent) × (a.received < received))
@@ -41,3 +47,23 @@ pub found_here : (pair_states : List PairState) (w : WalkParts) (rows : List Eve
 found_here pair_states w rows from to sent received result same h known =
     subst (λ (x : List PairState). (v : PairState) × (slice_get x (to * 64 + from) ≡ Some v) × IsFoundPast v.received_from.arrivals sent received result) (sym same)
     (known (past rows) (subst (λ (x : List PairState). ShowsPairs x (past rows)) same h.messages))
+
+-- in a pair that is not in use nothing is found
+pub none_linked : (made now : List PairState) (used : List ℕ) (n place : ℕ) → with_new made ≡ now → n ≡ place → n < 4096 → AreInUse made used → is_in used n ≡ false → (sent received : ℕ)
+    → (v : PairState) × (slice_get now place ≡ Some v) × IsFoundPast v.received_from.arrivals sent received None
+none_linked made now used n place same index low h none sent received = elim (cases_lt n (length made)) [
+  | inl within ↦
+      let item = item_there made n within in
+      (item.0, moved item.0 (there made n item.0 item.1), nothing item.0.received_from.arrivals (empty item.0 item.1 (is_idle item.0) refl))
+  | inr past ↦ (new_pair_state (n / 64) (n % 64), moved (new_pair_state (n / 64) (n % 64)) (not_there made n past low), nothing [] refl)
+]
+  where
+    moved : (v : PairState) → slice_get (with_new made) n ≡ Some v → slice_get now place ≡ Some v
+    moved v at = (λ j. slice_get (sym same j) (sym index j)) ∙ at
+
+    nothing : (arrivals : List Arrival) → length arrivals ≡ 0 → IsFoundPast arrivals sent received None
+    nothing arrivals e = record { there = tt; least = λ k a at late early. absurd (no_item arrivals k a e at) }
+
+    empty : (v : PairState) → slice_get made n ≡ Some v → (b : Bool) → is_idle v ≡ b → length v.received_from.arrivals ≡ 0
+    empty v at true e = (both_none v e).0
+    empty v at false e = let busy = h.each n v at e in absurd (cc (none, busy))

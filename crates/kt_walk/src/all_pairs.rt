@@ -1,6 +1,6 @@
 //! The messages of each pair of processes that can still matter.
 
-ghost use Rattle.std.specs.Prelude.{◌≡◌, ◌≢◌, ◌≤◌, ◌<◌, ◌+◌, ◌*◌, ◌||◌, ℕ, List, Some, true, is_some, length, map, slice_get, slice_index, OnOk, OnErr, IfSome, IfNone};
+ghost use Rattle.std.specs.Prelude.{◌≡◌, ◌≢◌, ◌≤◌, ◌<◌, ◌+◌, ◌*◌, ◌||◌, ℕ, List, None, Some, true, false, is_some, length, map, slice_get, slice_index, OnOk, OnErr, IfSome, IfNone};
 ghost use Rattle.kt_spacetime.specs.declared.event.Event.TheVariants as event;
 ghost use Rattle.kt_spacetime.specs.declared.deeds.Deed.TheVariants as deed;
 ghost use Rattle.kt_meaning.specs.Past.{Past, start, after};
@@ -94,6 +94,15 @@ impl Pairs {
         ensures known { (v : PairState) → slice_get self.now (p * 64 + from) ≡ Some v → v.last ≡ result }
     {
         self.pair(p, from)?.last()
+    }
+
+    /// Whether there may be a message to this process from the other one; where there is none, `link` finds none.
+    #[inline(always)]
+    pub(crate) fn may_link(&self, p: ProcNo, from: ProcNo) -> bool
+        ensures { result ≡ false → (sent received : ℕ) → (v : PairState)
+            × (slice_get self.now (p * 64 + from) ≡ Some v) × IsFoundPast v.received_from.arrivals sent received None }
+    {
+        self.used.has(index_of(p, from))
     }
 
     /// The least message to this process from the other one in both live histories that was sent at one place or later

@@ -44,6 +44,15 @@ impl Peers {
         self.senders[place / 64] |= 1 << (place % 64);
     }
 
+    /// Whether the pair at this place is there.
+    #[inline(always)]
+    pub(crate) fn has(&self, place: usize) -> bool
+        requires { place < 4096 }
+        ensures { result ≡ is_in self.now place }
+    {
+        (self.senders[place / 64] >> (place % 64)) & 1 == 1
+    }
+
     /// Removes the pair at this place.
     pub(crate) fn remove(&mut self, place: usize)
         requires { place < 4096 }

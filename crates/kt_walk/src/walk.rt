@@ -370,6 +370,16 @@ impl Walk {
         self.pairs.places(from, to, msg)
     }
 
+    /// Whether a message from one process to another may be kept; where none is, `link` finds none.
+    #[inline(always)]
+    pub fn may_link(&self, from: ProcNo, to: ProcNo) -> bool
+        ensures { result ≡ false → (sent received : ℕ) → (v : PairState)
+            × (slice_get self.now.pair_states (to * 64 + from) ≡ Some v)
+            × IsFoundPast v.received_from.arrivals sent received None }
+    {
+        self.pairs.may_link(to, from)
+    }
+
     /// The least message from one process to another that is in both live histories, was sent at one place or later and
     /// received before another one, of those that are kept. Places are counted from 0.
     pub fn link(&self, from: ProcNo, to: ProcNo, sent: usize, received: usize) -> Option<MsgNo>

@@ -7,9 +7,9 @@ pub returns-then-place-len-clause-shows : goal.returns-then-place-len-clause-sho
 returns-then-place-len-clause-shows c = λ kinds rows row whose is legal h.
     let list = c.args.objects.now.items in
     let place = c.index-place.result in
-    let x = c.index.result.now in
+    let x = c.index_mut-object.result.now in
     let within : place < length list = omega (arith, c.if-place-len.true, c.len.ensures, c.args.objects.now.ok.0) in
-    acted rows row legal list kinds place c.args.act x c.after.result (c.index-place.ensures.value ∙ whose) is (slice_get_read list (length list) place x refl within c.index.ensures) c.after.ensures h
+    acted rows row legal list kinds place c.args.act x c.act.new.self (c.index-place.ensures.value ∙ whose) is (slice_get_read list (length list) place x refl within c.index_mut-object.ensures.value) c.act.ensures h
 
 pub returns-else-place-len-clause-shows : goal.returns-else-place-len-clause-shows
 returns-else-place-len-clause-shows c = λ kinds rows row whose is legal h.

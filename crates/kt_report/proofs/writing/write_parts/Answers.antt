@@ -19,9 +19,9 @@ returns g c =
     let rows = c.args.rows.now in
     let commands = commands_of names rows c.args.certificates.now in
     let offers = map (λ (o : Offers). o.now) c.args.objects.now in
-    let losses = losses_line c.args.lost c.dropped.result in
+    let losses = losses_line c.args.lost c.in_ok-told.told.dropped in
     let same : commands ++ object_lines names offers ++ losses ≡ report_with names rows c.args.certificates.now offers c.args.lost =
-    ap (λ (n : ℕ). commands ++ object_lines names offers ++ losses_line c.args.lost n) c.dropped.ensures in
+    ap (λ (n : ℕ). commands ++ object_lines names offers ++ losses_line c.args.lost n) c.in_ok-told.ensures.dropped in
     record {
       written = on_ok_weaker c.write_rest.result (λ out. subst (λ (t : List ℕ). Appends a d t) same
           (parts_go_out a b d c.in_ok-text.text.items c.write_commands.new.text.items c.push_objects.new.text.items c.push_losses.new.text.items commands (object_lines names offers) losses
