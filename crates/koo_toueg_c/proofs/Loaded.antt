@@ -4,7 +4,7 @@ use Rattle.std.proofs.Common.{◌≡◌, ◌≢◌, ◌∙◌, ◌⊎◌, ◌≤
 use Rattle.std.proofs.lemmas.Bool.{cases_lt}
 use Rattle.std.proofs.lemmas.List.{get_or_past, length-map}
 use Rattle.kt_plan.specs.declared.steps.Look.TheVariants.{Idle}
-use Rattle.kt_node.specs.Nodes.{NodeState}
+use Rattle.kt_manager.specs.Nodes.{NodeState}
 use Rattle.kt_node.specs.Faults.{fault_at, wants_memory}
 use Rattle.kt_node.specs.declared.faults.ManagerFault.TheVariants as manager
 use Rattle.kt_node.specs.Links.{NodeLinks, ShowsLinks, IsGiven, IsMetAs, IsStep, IsUntaken, IsParcelRefusedAs}
@@ -26,8 +26,8 @@ use Rattle.kt_process.specs.declared.side.Side.{Side}
 use Rattle.kt_process.specs.declared.side.Side.TheVariants as side
 use Rattle.kt_node.specs.Erasing.{erased_parcel}
 use Rattle.kt_node.specs.Managers.{no_name}
-use Rattle.kt_node.specs.Nodes.{NodeLists}
-use Rattle.kt_node.specs.OwnParts.{HasOwnMarks}
+use Rattle.kt_manager.specs.Nodes.{NodeLists}
+use Rattle.kt_manager.specs.OwnParts.{HasOwnMarks}
 use Rattle.kt_node.proofs.OwnMarks.{marks_after, own_shown}
 use Rattle.kt_node_text.specs.Form.{text_of}
 use Rattle.kt_node_text.specs.Sameness.{IsOwn, IsSameState}

@@ -3,15 +3,15 @@ use Rattle.std.specs.Prelude.{◌≡◌, ◌<◌, ◌≤◌, ◌+◌, ◌-◌, �
 use Rattle.kt_meaning.specs.Past.{at_one}
 use Rattle.kt_checksum.specs.Checksums.{sealed}
 use Rattle.kt_text.specs.Writing.{text_of}
-use Rattle.kt_node.specs.Nodes.{NodeState, Doing, is_in_rollback}
+use Rattle.kt_manager.specs.Nodes.{NodeState, Doing, is_in_rollback}
 use Rattle.kt_node.specs.NodeSteps.{node_after}
 use Rattle.kt_node.specs.Nets.{opening_net, has_some}
-use Rattle.kt_node.specs.declared.parcels.NodeParcel.{NodeParcel}
-use Rattle.kt_system.specs.ShownActs.{acts_shown}
+use Rattle.kt_manager.specs.declared.parcels.NodeParcel.{NodeParcel}
+use Rattle.kt_manager.specs.ShownActs.{acts_shown}
 use Rattle.kt_merge.specs.Spelling.{part_spelling}
 use Rattle.kt_spacetime.specs.declared.named_rows.ClockedRow.{ClockedRow}
 use Rattle.kt_node.specs.Managers.{ShowsNode}
-use Rattle.kt_node.specs.Effects.{put_to, rows_told}
+use Rattle.kt_manager.specs.Effects.{put_to, rows_told}
 use Rattle.kt_node.specs.Faults.{fault_at, wants_memory}
 use Rattle.kt_node.specs.Links.{NodeLinks, ShowsLinks, IsGiven, IsParcelRefusedAs}
 use Rattle.kt_node.specs.Looks.{clock_of, input_of, meeting_at, node_look}

@@ -8,7 +8,7 @@ use Rattle.kt_meaning.specs.Past.{past, is_rollback, is_committed}
 use Rattle.kt_plan.specs.declared.steps.Step.{Step}
 use Rattle.kt_plan.specs.declared.steps.Give.{Give}
 use Rattle.kt_plan.specs.declared.steps.Act.{Act}
-use Rattle.kt_system.specs.ShownActs.{acts_shown}
+use Rattle.kt_manager.specs.ShownActs.{acts_shown}
 use Rattle.kt_machine.specs.Done.{done}
 use Rattle.kt_machine.specs.Values as values
 use Rattle.kt_machine.specs.Values.{Rules, due, does_all, can_all, closing}

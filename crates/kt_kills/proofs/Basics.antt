@@ -4,8 +4,8 @@ use Rattle.std.specs.Prelude.{◌==◌, ◌||◌, if◌then◌else◌, take}
 use Rattle.std.proofs.lemmas.Bool.Decides.{nat_tests}
 use Rattle.std.proofs.lemmas.List.{append-nil, map-append}
 use Rattle.kt_meaning.specs.Past.{at_one}
-use Rattle.kt_node.specs.Nodes.{Input}
-use Rattle.kt_node.specs.Nodes as input
+use Rattle.kt_node.specs.Inputs.{Input}
+use Rattle.kt_node.specs.Inputs as input
 use Rattle.kt_node.specs.Clocks.{Envelope}
 use Rattle.kt_kills.specs.KilledNets.{KilledNet, KillEvent, came_of, happens, killed_run}
 use Rattle.kt_kills.specs.Starts.{parcels, IsFront}

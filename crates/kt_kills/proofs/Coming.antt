@@ -3,7 +3,7 @@ use Rattle.std.proofs.Common.{◌≡◌, ℕ, ℤ, ◌+◌, Bool, true, false, O
 use Rattle.std.specs.Prelude.{◌==◌, ◌&&◌, if◌then◌else◌}
 use Rattle.kt_meaning.specs.Past.{at_one}
 use Rattle.kt_machine.specs.Acts.{stepper}
-use Rattle.kt_node.specs.Nodes.{Input}
+use Rattle.kt_node.specs.Inputs.{Input}
 use Rattle.kt_node.specs.NodeSteps.{node_after}
 use Rattle.kt_node.specs.Clocks.{Envelope, input_at, front_input}
 use Rattle.kt_kills.specs.Writing.{is_protocol}

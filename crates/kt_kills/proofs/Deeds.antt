@@ -6,8 +6,9 @@ use Rattle.kt_meaning.specs.Past.{at_one}
 use Rattle.kt_protocol.specs.States.{ProtocolStep}
 use Rattle.kt_protocol.specs.States as protocol
 use Rattle.kt_machine.specs.Acts.{stepper}
-use Rattle.kt_node.specs.Nodes.{Input, is_in_rollback}
-use Rattle.kt_node.specs.Nodes as input
+use Rattle.kt_manager.specs.Nodes.{is_in_rollback}
+use Rattle.kt_node.specs.Inputs.{Input}
+use Rattle.kt_node.specs.Inputs as input
 use Rattle.kt_node.specs.NodeSteps.{is_step, node_after}
 use Rattle.kt_node.specs.Nets.{has_some}
 use Rattle.kt_node.specs.Clocks.{Envelope, input_at, front_input}

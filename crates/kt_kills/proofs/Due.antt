@@ -11,12 +11,13 @@ use Rattle.kt_tables.specs.Calls.{Call, sent, received, on_tentative, on_commit,
 use Rattle.kt_spacetime.specs.declared.named_rows.NamedEvent.{NamedEvent}
 use Rattle.kt_spacetime.specs.declared.named_rows.NamedEvent.TheVariants.{Sent, Received, Dropped, Began, Took, Ready, Unwilling, Decided, Closed, Failed, Refused}
 use Rattle.kt_protocol.specs.States as protocol
-use Rattle.kt_node.specs.Nodes.{NodeState, Input}
-use Rattle.kt_node.specs.Nodes as input
+use Rattle.kt_manager.specs.Nodes.{NodeState}
+use Rattle.kt_node.specs.Inputs.{Input}
+use Rattle.kt_node.specs.Inputs as input
 use Rattle.kt_node.specs.NodeSteps.{is_step, node_after}
 use Rattle.kt_base.specs.declared.words.Verb.TheVariants as verb
 use Rattle.kt_spacetime.specs.declared.named_rows.NamedCause.TheVariants.{Down}
-use Rattle.kt_node.specs.NodeMessages.{sending, refusing}
+use Rattle.kt_manager.specs.NodeMessages.{sending, refusing}
 use Rattle.kt_node.specs.NodeLooks.{where_able, would_save}
 use Rattle.kt_node.specs.NodeHistories.{Histories, no_history, histories_after, histories, call_of_row, call_of_act, calls_told}
 use Rattle.kt_node.specs.Clocks.{Envelope, input_at, front_input}

@@ -5,7 +5,7 @@ use Rattle.std.proofs.lemmas.List.{append-nil}
 use Rattle.kt_meaning.specs.Past.{at_one}
 use Rattle.kt_protocol.specs.States.{ProtocolStep}
 use Rattle.kt_machine.specs.Acts.{stepper}
-use Rattle.kt_node.specs.Nodes.{Input}
+use Rattle.kt_node.specs.Inputs.{Input}
 use Rattle.kt_node.specs.Clocks.{Envelope, input_at}
 use Rattle.kt_kills.specs.KilledNets.{Holdings, KilledNet, having_done, having, written, sending_again}
 use Rattle.kt_kills.specs.Starts.{parcels, IsFront}

@@ -4,8 +4,8 @@ use Rattle.std.specs.Prelude.{◌==◌, ◌&&◌, ◌||◌, if◌then◌else◌,
 use Rattle.std.proofs.lemmas.Bool.Decides.{nat_tests}
 use Rattle.kt_meaning.specs.Past.{at_one}
 use Rattle.kt_protocol.proofs.Updates.{at_one_here}
-use Rattle.kt_node.specs.declared.parcels.NodeParcel.{NodeParcel}
-use Rattle.kt_node.specs.declared.parcels.NodeParcel.TheVariants.{App, Ask, Reply, Decide}
+use Rattle.kt_manager.specs.declared.parcels.NodeParcel.{NodeParcel}
+use Rattle.kt_manager.specs.declared.parcels.NodeParcel.TheVariants.{App, Ask, Reply, Decide}
 use Rattle.kt_kills.specs.Starts.{IsFront}
 use Rattle.kt_kills.specs.Fillers.{body_at, has_above, last_label, last_told, or_else, taker_of, filled_by, sends_after}
 use Rattle.kt_kills.proofs.Basics.{same, is_same, clash}

@@ -3,10 +3,11 @@ use Rattle.std.proofs.Common.{◌≡◌, ◌∙◌, ◌+◌, ◌-◌, ℕ, ℤ, 
 use Rattle.std.specs.Prelude.{◌==◌, ◌&&◌, is_none, if◌then◌else◌, length, drop}
 use Rattle.std.proofs.lemmas.List.{append-nil, length-map}
 use Rattle.kt_protocol.specs.States as protocol
-use Rattle.kt_node.specs.declared.parcels.NodeParcel.{NodeParcel}
-use Rattle.kt_node.specs.declared.parcels.NodeParcel.TheVariants.{App}
-use Rattle.kt_node.specs.Nodes.{NodeState, Send, Doing}
-use Rattle.kt_node.specs.NodeMessages.{sending, refusing}
+use Rattle.kt_manager.specs.declared.parcels.NodeParcel.{NodeParcel}
+use Rattle.kt_manager.specs.declared.parcels.NodeParcel.TheVariants.{App}
+use Rattle.kt_manager.specs.Nodes.{NodeState, Doing}
+use Rattle.kt_node.specs.Inputs.{Send}
+use Rattle.kt_manager.specs.NodeMessages.{sending, refusing}
 use Rattle.kt_base.specs.declared.words.Verb.TheVariants as verb
 use Rattle.kt_spacetime.specs.declared.named_rows.NamedCause.TheVariants.{Down}
 use Rattle.kt_node.specs.NodeSteps.{is_step, node_after}

@@ -2,8 +2,8 @@
 use Rattle.std.proofs.Common.{◌≡◌, ◌∙◌, ◌+◌, ℕ, ℤ, Bool, true, false, Option, Some, None, List, map, refl, sym, ap, subst}
 use Rattle.std.specs.Prelude.{◌==◌, ◌&&◌, if◌then◌else◌}
 use Rattle.kt_meaning.specs.Past.{at_one}
-use Rattle.kt_node.specs.declared.parcels.NodeParcel.{NodeParcel}
-use Rattle.kt_node.specs.Nodes.{Input}
+use Rattle.kt_manager.specs.declared.parcels.NodeParcel.{NodeParcel}
+use Rattle.kt_node.specs.Inputs.{Input}
 use Rattle.kt_node.specs.NodeSteps.{node_after}
 use Rattle.kt_node.specs.Clocks.{Envelope, envelope, clock_after}
 use Rattle.kt_kills.specs.Writing.{is_protocol}

@@ -2,7 +2,7 @@
 use Rattle.std.proofs.Common.{◌≡◌, ◌∙◌, ℕ, ℤ, Bool, true, false, List, refl, sym, ap, subst}
 use Rattle.std.specs.Prelude.{◌==◌, if◌then◌else◌}
 use Rattle.kt_meaning.specs.Past.{at_one}
-use Rattle.kt_node.specs.Nodes.{Input}
+use Rattle.kt_node.specs.Inputs.{Input}
 use Rattle.kt_node.specs.Clocks.{Envelope}
 use Rattle.kt_kills.specs.KilledNets.{Holdings, KilledNet, Killed, came_of, having_done, having, written, sending_again, coming_back, happens}
 use Rattle.kt_kills.specs.Starts.{parcels, IsFront}

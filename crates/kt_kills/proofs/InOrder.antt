@@ -13,9 +13,10 @@ use Rattle.kt_spacetime.specs.declared.named_rows.NamedEvent.{NamedEvent}
 use Rattle.kt_spacetime.specs.declared.named_rows.NamedRow.{NamedRow}
 use Rattle.kt_spacetime.specs.declared.named_rows.ClockedRow.{ClockedRow}
 use Rattle.kt_spacetime.specs.ClockedRows.{rows_of, without_clocks}
-use Rattle.kt_node.specs.declared.parcels.NodeParcel.{NodeParcel}
-use Rattle.kt_node.specs.Nodes.{NodeState, Input, is_in_rollback}
-use Rattle.kt_node.specs.Nodes as input
+use Rattle.kt_manager.specs.declared.parcels.NodeParcel.{NodeParcel}
+use Rattle.kt_manager.specs.Nodes.{NodeState, is_in_rollback}
+use Rattle.kt_node.specs.Inputs.{Input}
+use Rattle.kt_node.specs.Inputs as input
 use Rattle.kt_node.specs.NodeSteps.{is_step, node_after}
 use Rattle.kt_node.specs.Nets.{Net, with_doing, with_rest, has_some, net_step, net_run, opening_net}
 use Rattle.kt_node.specs.Clocks.{Envelope, envelope, clocked_row, clock_after, input_at, AreByClock}

@@ -7,11 +7,12 @@ use Rattle.kt_machine.specs.Acts.{stepper}
 use Rattle.kt_protocol.specs.States as protocol
 use Rattle.kt_base.specs.declared.words.Verb.TheVariants as verb
 use Rattle.kt_spacetime.specs.declared.named_rows.NamedCause.TheVariants.{Down}
-use Rattle.kt_node.specs.declared.parcels.NodeParcel.{NodeParcel}
-use Rattle.kt_node.specs.declared.parcels.NodeParcel.TheVariants.{App, Ask, Reply, Decide}
-use Rattle.kt_node.specs.Nodes.{Input, Send, Doing, nothing}
-use Rattle.kt_node.specs.Nodes as input
-use Rattle.kt_node.specs.NodeMessages.{sending, refusing}
+use Rattle.kt_manager.specs.declared.parcels.NodeParcel.{NodeParcel}
+use Rattle.kt_manager.specs.declared.parcels.NodeParcel.TheVariants.{App, Ask, Reply, Decide}
+use Rattle.kt_manager.specs.Nodes.{Doing, nothing}
+use Rattle.kt_node.specs.Inputs.{Input, Send}
+use Rattle.kt_node.specs.Inputs as input
+use Rattle.kt_manager.specs.NodeMessages.{sending, refusing}
 use Rattle.kt_node.specs.NodeSteps.{is_step, node_after}
 use Rattle.kt_node.specs.Clocks.{Envelope, envelope, clock_after, input_at, front_input}
 use Rattle.kt_node.proofs.NetInputs.{clock_rises}

@@ -6,9 +6,10 @@ use Rattle.std.proofs.lemmas.List.{append-nil, map-append, length-map, append_ca
 use Rattle.std.proofs.Math.Seq.{drop-append_seam}
 use Rattle.kt_meaning.specs.Past.{at_one}
 use Rattle.kt_machine.specs.Acts.{stepper}
-use Rattle.kt_node.specs.declared.parcels.NodeParcel.{NodeParcel}
-use Rattle.kt_node.specs.Nodes.{NodeState, Input, is_in_rollback}
-use Rattle.kt_node.specs.Nodes as input
+use Rattle.kt_manager.specs.declared.parcels.NodeParcel.{NodeParcel}
+use Rattle.kt_manager.specs.Nodes.{NodeState, is_in_rollback}
+use Rattle.kt_node.specs.Inputs.{Input}
+use Rattle.kt_node.specs.Inputs as input
 use Rattle.kt_node.specs.Nets.{has_some, net_run, opening_net}
 use Rattle.kt_node.specs.Clocks.{Envelope, input_at, front_input}
 use Rattle.kt_kills.specs.KilledNets.{Holdings, KilledNet, KillEvent, Does, Brought, Writes, Killed, Back, having_done, brought, coming_back, happens, killed_run}

@@ -11,10 +11,11 @@ use Rattle.kt_protocol.specs.States as protocol
 use Rattle.kt_spacetime.specs.declared.names.InstName.{InstName}
 use Rattle.kt_base.specs.declared.words.Verb.TheVariants as verb
 use Rattle.kt_spacetime.specs.declared.named_rows.NamedCause.TheVariants.{Down}
-use Rattle.kt_node.specs.declared.parcels.NodeParcel.{NodeParcel}
-use Rattle.kt_node.specs.declared.parcels.NodeParcel.TheVariants.{App}
-use Rattle.kt_node.specs.Nodes.{NodeState, NodeLists, Input, Send, Begin, Fail, Held, Comes, Doing, nothing, is_in_rollback, with_one}
-use Rattle.kt_node.specs.NodeMessages.{sending, refusing}
+use Rattle.kt_manager.specs.declared.parcels.NodeParcel.{NodeParcel}
+use Rattle.kt_manager.specs.declared.parcels.NodeParcel.TheVariants.{App}
+use Rattle.kt_manager.specs.Nodes.{NodeState, NodeLists, Doing, nothing, is_in_rollback, with_one}
+use Rattle.kt_node.specs.Inputs.{Input, Send, Begin, Fail, Held, Comes}
+use Rattle.kt_manager.specs.NodeMessages.{sending, refusing}
 use Rattle.kt_node.specs.NodeSteps.{is_step, node_after}
 use Rattle.kt_node.specs.Nets.{has_some, opening_net}
 use Rattle.kt_node.specs.Clocks.{Envelope, input_at, front_input}

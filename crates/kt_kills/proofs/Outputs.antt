@@ -4,8 +4,9 @@ use Rattle.std.specs.Prelude.{◌==◌, if◌then◌else◌}
 use Rattle.kt_machine.specs.Acts.{stepper}
 use Rattle.kt_protocol.specs.States as protocol
 use Rattle.kt_tables.specs.Calls.{Call}
-use Rattle.kt_node.specs.Nodes.{NodeState, Input}
-use Rattle.kt_node.specs.Nodes as input
+use Rattle.kt_manager.specs.Nodes.{NodeState}
+use Rattle.kt_node.specs.Inputs.{Input}
+use Rattle.kt_node.specs.Inputs as input
 use Rattle.kt_node.specs.NodeSteps.{is_step, node_after}
 use Rattle.kt_node.specs.NodeHistories.{GoesOn, HasCheckpoints, histories}
 use Rattle.kt_node.specs.Nets.{opening_net}

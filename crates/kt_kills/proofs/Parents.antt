@@ -8,13 +8,15 @@ use Rattle.kt_spacetime.specs.declared.names.InstName.{InstName}
 use Rattle.kt_spacetime.specs.declared.named_rows.NamedEvent.TheVariants.{Dropped, Decided}
 use Rattle.kt_spacetime.specs.declared.named_rows.NamedCause.TheVariants.{Down, Busy}
 use Rattle.kt_base.specs.declared.words.Verb.TheVariants as verb
-use Rattle.kt_node.specs.declared.parcels.NodeParcel.{NodeParcel}
-use Rattle.kt_node.specs.declared.parcels.NodeParcel.TheVariants.{App, Ask, Reply, Decide}
-use Rattle.kt_node.specs.Nodes.{NodeState, Input, Send, Begin, Fail, Held, Comes, Doing, nothing, is_in_rollback}
-use Rattle.kt_node.specs.NodeMessages.{sending, receiving, arriving, holding, taking_held, failing, refusing, unable}
-use Rattle.kt_node.specs.NodeJoining.{next_name, beginning, joining_checkpoint, joining_rollback, replying, unwilling, noting, asking}
-use Rattle.kt_node.specs.NodeClosing.{after_checkpoint, after_rollback, closing, ending, settling}
-use Rattle.kt_node.specs.NodeSteps.{is_one, starting, told_to_begin, asked, awaits, heeds, counting, taking, is_step, node_after}
+use Rattle.kt_manager.specs.declared.parcels.NodeParcel.{NodeParcel}
+use Rattle.kt_manager.specs.declared.parcels.NodeParcel.TheVariants.{App, Ask, Reply, Decide}
+use Rattle.kt_manager.specs.Nodes.{NodeState, Doing, nothing, is_in_rollback}
+use Rattle.kt_node.specs.Inputs.{Input, Send, Begin, Fail, Held, Comes}
+use Rattle.kt_manager.specs.NodeMessages.{sending, receiving, arriving, holding, taking_held, failing, refusing, unable}
+use Rattle.kt_manager.specs.NodeJoining.{beginning, joining_checkpoint, joining_rollback, replying, unwilling, noting}
+use Rattle.kt_node.specs.NodeSteps.{next_name, asking, awaits, heeds, taking, is_step, node_after}
+use Rattle.kt_manager.specs.NodeClosing.{after_checkpoint, after_rollback, closing, ending, settling}
+use Rattle.kt_manager.specs.NodeSteps.{is_one, starting, told_to_begin, asked, counting}
 use Rattle.kt_kills.proofs.PlainSteps.{from_of, either}
 
 -- the one that it answers, if there is one, is one of so many
@@ -50,11 +52,11 @@ module _ (n p : ℕ) where
     arrives : (q label : ℕ) (body : ℤ) → Ends (arriving y q label body)
     arrives q label body = either Ends y.up (receiving y q label body) (record (nothing y) { rows = Dropped q label ∷ [] }) h h
 
-    begins : (o : Option InstName) (roll able : Bool) → Ends (told_to_begin o y roll able)
+    begins : (o : Option InstName) (roll able : Bool) → Ends (told_to_begin (next_name y) o y roll able)
     begins (Some name) roll able = h
-    begins None true able = settles (next_name y) (joining_rollback (next_name y) None no_note (beginning y true)) (h.0, h.1, nobody n)
-    begins None false able = either Ends (able && y.up) (starting y false) (refusing y verb.Checkpoint (unable y.up))
-        (settles (next_name y) (joining_checkpoint (next_name y) None (beginning y false)) (h.0, h.1, nobody n)) h
+    begins None true able = settles (next_name y) (joining_rollback (next_name y) None no_note (beginning (next_name y) y true)) (h.0, h.1, nobody n)
+    begins None false able = either Ends (able && y.up) (starting (next_name y) y false) (refusing y verb.Checkpoint (unable y.up))
+        (settles (next_name y) (joining_checkpoint (next_name y) None (beginning (next_name y) y false)) (h.0, h.1, nobody n)) h
 
     hears : (q : ℕ) → nat_lt q n ≡ true → (o : Option InstName) (able : Bool) (k : InstName) (roll : Bool) (label : ℕ) → Ends (asked o y q able k roll label)
     hears q from (Some name) able k roll label = either Ends (is_one name k) (replying (noting y roll q label) q k true) (unwilling y q k (Busy name)) (noted roll) h

@@ -13,13 +13,15 @@ use Rattle.kt_spacetime.specs.declared.named_rows.NamedEvent.{NamedEvent}
 use Rattle.kt_spacetime.specs.declared.named_rows.NamedEvent.TheVariants.{Dropped, Decided, Closed}
 use Rattle.kt_spacetime.specs.declared.named_rows.NamedCause.TheVariants.{Down, Busy}
 use Rattle.kt_base.specs.declared.words.Verb.TheVariants as verb
-use Rattle.kt_node.specs.declared.parcels.NodeParcel.{NodeParcel}
-use Rattle.kt_node.specs.declared.parcels.NodeParcel.TheVariants.{App, Ask, Reply, Decide}
-use Rattle.kt_node.specs.Nodes.{NodeState, Input, Send, Begin, Fail, Held, Comes, Doing, nothing, is_in_rollback, with_one}
-use Rattle.kt_node.specs.NodeMessages.{sending, receiving, arriving, holding, taking_held, failing, refusing, unable}
-use Rattle.kt_node.specs.NodeJoining.{next_name, beginning, joining_checkpoint, joining_rollback, replying, unwilling, noting, asking}
-use Rattle.kt_node.specs.NodeClosing.{closing, ending, settling}
-use Rattle.kt_node.specs.NodeSteps.{is_one, starting, told_to_begin, asked, awaits, heeds, counting, taking, is_step, node_after}
+use Rattle.kt_manager.specs.declared.parcels.NodeParcel.{NodeParcel}
+use Rattle.kt_manager.specs.declared.parcels.NodeParcel.TheVariants.{App, Ask, Reply, Decide}
+use Rattle.kt_manager.specs.Nodes.{NodeState, Doing, nothing, is_in_rollback, with_one}
+use Rattle.kt_node.specs.Inputs.{Input, Send, Begin, Fail, Held, Comes}
+use Rattle.kt_manager.specs.NodeMessages.{sending, receiving, arriving, holding, taking_held, failing, refusing, unable}
+use Rattle.kt_manager.specs.NodeJoining.{beginning, joining_checkpoint, joining_rollback, replying, unwilling, noting}
+use Rattle.kt_node.specs.NodeSteps.{next_name, asking, awaits, heeds, taking, is_step, node_after}
+use Rattle.kt_manager.specs.NodeClosing.{closing, ending, settling}
+use Rattle.kt_manager.specs.NodeSteps.{is_one, starting, told_to_begin, asked, counting}
 use Rattle.kt_node.specs.NodeHistories.{no_history, histories_after, histories}
 use Rattle.kt_kills.specs.Writing.{is_protocol_row, is_no_message, is_protocol}
 use Rattle.kt_kills.proofs.Basics.{same, not_both}
@@ -99,11 +101,11 @@ module _ (y : NodeState) (i : Input) where
       go true None e = inr refl
       go false o e = silent
 
-  began : (o : Option InstName) (roll able : Bool) → Leaves y i (told_to_begin o y roll able)
+  began : (o : Option InstName) (roll able : Bool) → Leaves y i (told_to_begin (next_name y) o y roll able)
   began (Some name) roll able = silent
-  began None true able = inr (settled (next_name y) (joining_rollback (next_name y) None no_note (beginning y true)) refl)
-  began None false able = either (Leaves y i) (able && y.up) (starting y false) (refusing y verb.Checkpoint (unable y.up))
-      (inr (settled (next_name y) (joining_checkpoint (next_name y) None (beginning y false)) refl)) silent
+  began None true able = inr (settled (next_name y) (joining_rollback (next_name y) None no_note (beginning (next_name y) y true)) refl)
+  began None false able = either (Leaves y i) (able && y.up) (starting (next_name y) y false) (refusing y verb.Checkpoint (unable y.up))
+      (inr (settled (next_name y) (joining_checkpoint (next_name y) None (beginning (next_name y) y false)) refl)) silent
 
   module _ (q : ℕ) (comes : from_of i ≡ Some q) where
     says : (k : InstName) (w : Bool) → Leaves y i (replying y q k w)

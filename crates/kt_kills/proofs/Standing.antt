@@ -4,7 +4,7 @@ use Rattle.std.specs.Prelude.{◌==◌, if◌then◌else◌}
 use Rattle.kt_meaning.specs.Past.{at_one}
 use Rattle.kt_machine.specs.Acts.{stepper}
 use Rattle.kt_protocol.specs.States as protocol
-use Rattle.kt_node.specs.Nodes.{Input}
+use Rattle.kt_node.specs.Inputs.{Input}
 use Rattle.kt_node.specs.NodeSteps.{node_after}
 use Rattle.kt_node.specs.Clocks.{Envelope, input_at, front_input}
 use Rattle.kt_kills.specs.Writing.{is_protocol}

@@ -4,9 +4,9 @@ use Rattle.std.specs.Prelude.{◌==◌, if◌then◌else◌}
 use Rattle.std.proofs.lemmas.List.{append-nil, map-append}
 use Rattle.kt_meaning.specs.Past.{at_one}
 use Rattle.kt_protocol.specs.States as protocol
-use Rattle.kt_node.specs.declared.parcels.NodeParcel.{NodeParcel}
-use Rattle.kt_node.specs.Nodes.{Input}
-use Rattle.kt_node.specs.Nodes as input
+use Rattle.kt_manager.specs.declared.parcels.NodeParcel.{NodeParcel}
+use Rattle.kt_node.specs.Inputs.{Input}
+use Rattle.kt_node.specs.Inputs as input
 use Rattle.kt_node.specs.NodeSteps.{is_step}
 use Rattle.kt_node.specs.Clocks.{Envelope, input_at}
 use Rattle.kt_kills.specs.KilledNets.{Holdings, KilledNet, sending_one, sending_again}

@@ -14,13 +14,15 @@ use Rattle.kt_spacetime.specs.declared.named_rows.NamedEvent.TheVariants.{Droppe
 use Rattle.kt_spacetime.specs.declared.named_rows.NamedCause.TheVariants.{Down, Busy}
 use Rattle.kt_spacetime.specs.declared.named_rows.ClockedRow.{ClockedRow}
 use Rattle.kt_base.specs.declared.words.Verb.TheVariants as verb
-use Rattle.kt_node.specs.declared.parcels.NodeParcel.{NodeParcel}
-use Rattle.kt_node.specs.declared.parcels.NodeParcel.TheVariants.{App, Ask, Reply, Decide}
-use Rattle.kt_node.specs.Nodes.{NodeState, Input, Send, Begin, Fail, Held, Comes, Doing, nothing, is_in_rollback}
-use Rattle.kt_node.specs.NodeMessages.{sending, receiving, arriving, holding, taking_held, refusing, unable}
-use Rattle.kt_node.specs.NodeJoining.{next_name, beginning, joining_checkpoint, joining_rollback, replying, unwilling, noting, asking}
-use Rattle.kt_node.specs.NodeClosing.{after_checkpoint, after_rollback, closing, ending, settling}
-use Rattle.kt_node.specs.NodeSteps.{is_one, starting, told_to_begin, asked, awaits, heeds, counting, taking, is_step, node_after}
+use Rattle.kt_manager.specs.declared.parcels.NodeParcel.{NodeParcel}
+use Rattle.kt_manager.specs.declared.parcels.NodeParcel.TheVariants.{App, Ask, Reply, Decide}
+use Rattle.kt_manager.specs.Nodes.{NodeState, Doing, nothing, is_in_rollback}
+use Rattle.kt_node.specs.Inputs.{Input, Send, Begin, Fail, Held, Comes}
+use Rattle.kt_manager.specs.NodeMessages.{sending, receiving, arriving, holding, taking_held, refusing, unable}
+use Rattle.kt_manager.specs.NodeJoining.{beginning, joining_checkpoint, joining_rollback, replying, unwilling, noting}
+use Rattle.kt_node.specs.NodeSteps.{next_name, asking, awaits, heeds, taking, is_step, node_after}
+use Rattle.kt_manager.specs.NodeClosing.{after_checkpoint, after_rollback, closing, ending, settling}
+use Rattle.kt_manager.specs.NodeSteps.{is_one, starting, told_to_begin, asked, counting}
 use Rattle.kt_node.specs.Nets.{has_some}
 use Rattle.kt_node.specs.Clocks.{Envelope, clocked_row, clock_after, input_at, front_input}
 use Rattle.kt_kills.specs.Writing.{is_protocol}
@@ -58,10 +60,10 @@ module _ (y : NodeState) (up : y.up ≡ true) where
   arrives : (q label : ℕ) (body : ℤ) → IsUp (arriving y q label body)
   arrives q label body = subst (λ (b : Bool). IsUp (if b then receiving y q label body else record (nothing y) { rows = Dropped q label ∷ [] })) (sym up) (up, refl)
 
-  begins : (o : Option InstName) (roll able : Bool) → IsUp (told_to_begin o y roll able)
+  begins : (o : Option InstName) (roll able : Bool) → IsUp (told_to_begin (next_name y) o y roll able)
   begins (Some name) roll able = (up, refl)
-  begins None true able = settles (next_name y) (joining_rollback (next_name y) None no_note (beginning y true)) (up, refl)
-  begins None false able = either IsUp (able && y.up) (starting y false) (refusing y verb.Checkpoint (unable y.up)) (settles (next_name y) (joining_checkpoint (next_name y) None (beginning y false)) (up, refl)) (up, refl)
+  begins None true able = settles (next_name y) (joining_rollback (next_name y) None no_note (beginning (next_name y) y true)) (up, refl)
+  begins None false able = either IsUp (able && y.up) (starting (next_name y) y false) (refusing y verb.Checkpoint (unable y.up)) (settles (next_name y) (joining_checkpoint (next_name y) None (beginning (next_name y) y false)) (up, refl)) (up, refl)
 
   hears : (q : ℕ) (o : Option InstName) (able : Bool) (k : InstName) (roll : Bool) (label : ℕ) → IsUp (asked o y q able k roll label)
   hears q (Some name) able k roll label = either IsUp (is_one name k) (replying (noting y roll q label) q k true) (unwilling y q k (Busy name)) (noted roll) (up, refl)

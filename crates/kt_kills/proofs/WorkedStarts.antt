@@ -1,7 +1,7 @@
 -- Worked starts that are not right.
 use Rattle.std.proofs.Common.{◌≡◌, ℕ, List, [], ◌∷◌, ap, pos, arith}
-use Rattle.kt_node.specs.declared.parcels.NodeParcel.{NodeParcel}
-use Rattle.kt_node.specs.declared.parcels.NodeParcel.TheVariants.{App}
+use Rattle.kt_manager.specs.declared.parcels.NodeParcel.{NodeParcel}
+use Rattle.kt_manager.specs.declared.parcels.NodeParcel.TheVariants.{App}
 use Rattle.kt_kills.specs.KilledNets.{Back}
 use Rattle.kt_kills.specs.Starts.{IsRight}
 use Rattle.kt_kills.specs.Standing.{killed_after}

@@ -1,8 +1,8 @@
 -- Sends by which who comes back knows what was taken of it: one way to find them, for code. Since it is away until then, its memory
 -- is its disk's.
 use Rattle.std.specs.Prelude.{ℕ, ℤ, zero, suc, pos, ◌+◌, ◌-◌, ◌==◌, ◌||◌, nat_lt, if◌then◌else◌, Bool, false, Option, Some, None, unwrap_or, List, [], ◌∷◌, max, length, drop}
-use Rattle.kt_node.specs.declared.parcels.NodeParcel.{NodeParcel}
-use Rattle.kt_node.specs.declared.parcels.NodeParcel.TheVariants.{App}
+use Rattle.kt_manager.specs.declared.parcels.NodeParcel.{NodeParcel}
+use Rattle.kt_manager.specs.declared.parcels.NodeParcel.TheVariants.{App}
 use Rattle.kt_kills.specs.KilledNets.{KilledNet}
 use Rattle.kt_kills.specs.Starts.{parcels}
 

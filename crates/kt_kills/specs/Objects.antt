@@ -4,7 +4,8 @@ use Rattle.std.specs.Prelude.{◌≡◌, ◌⊎◌, ℕ, false, if◌then◌else
 use Rattle.kt_meaning.specs.Past.{at_one}
 use Rattle.kt_machine.specs.Acts.{stepper}
 use Rattle.kt_tables.specs.Calls.{Call, sent, received, on_tentative, on_commit, on_abort, on_rollback}
-use Rattle.kt_node.specs.Nodes.{Input, Doing}
+use Rattle.kt_manager.specs.Nodes.{Doing}
+use Rattle.kt_node.specs.Inputs.{Input}
 use Rattle.kt_node.specs.NodeSteps.{node_after}
 use Rattle.kt_node.specs.NodeLooks.{where_able}
 use Rattle.kt_node.specs.NodeHistories.{Histories, calls_told}

@@ -1,6 +1,6 @@
 -- Which sends a process has to make again when it comes back.
 use Rattle.std.specs.Prelude.{◌≡◌, ℕ, true, List, [], ◌∷◌, ◌++◌, map}
-use Rattle.kt_node.specs.declared.parcels.NodeParcel.{NodeParcel}
+use Rattle.kt_manager.specs.declared.parcels.NodeParcel.{NodeParcel}
 use Rattle.kt_node.specs.Clocks.{Envelope}
 use Rattle.kt_kills.specs.KilledNets.{Holdings, KilledNet, KillEvent, Back, sending_again, happens}
 

@@ -5,8 +5,8 @@ use Rattle.kt_spacetime.specs.declared.named_rows.NamedEvent.TheVariants.{Sent, 
 use Rattle.kt_spacetime.specs.declared.named_rows.ClockedRow.{ClockedRow}
 use Rattle.kt_meaning.specs.Names.{name_of}
 use Rattle.kt_protocol.specs.States.{ProtocolStep, Send, Begin, Take}
-use Rattle.kt_node.specs.declared.parcels.NodeParcel.{NodeParcel}
-use Rattle.kt_node.specs.declared.parcels.NodeParcel.TheVariants.{App, Reply}
+use Rattle.kt_manager.specs.declared.parcels.NodeParcel.{NodeParcel}
+use Rattle.kt_manager.specs.declared.parcels.NodeParcel.TheVariants.{App, Reply}
 use Rattle.kt_node.specs.Clocks.{clocked_row}
 use Rattle.kt_kills.specs.KilledNets.{Holdings, KillEvent, Does, Brought, Killed, Back, opening_killed}
 use Rattle.kt_kills.specs.Objects.{Object, objects_run, opening_objects}

@@ -17,10 +17,10 @@ use Rattle.kt_machine.proofs.Runs.{known_run, tells_runs}
 use Rattle.kt_machine.specs.Values.{Act}
 use Rattle.kt_machine.specs.SeenActs.{seen_acts_taking, seen_acts_taking_held, seen_acts}
 use Rattle.kt_spacetime.specs.declared.names.InstName.{InstName}
-use Rattle.kt_node.specs.declared.parcels.NodeParcel.{NodeParcel}
-use Rattle.kt_node.specs.Nodes.{NodeState, nothing}
-use Rattle.kt_node.specs.NodeMessages.{taking_held}
-use Rattle.kt_node.specs.NodeJoining.{asking}
+use Rattle.kt_manager.specs.declared.parcels.NodeParcel.{NodeParcel}
+use Rattle.kt_manager.specs.Nodes.{NodeState, nothing}
+use Rattle.kt_manager.specs.NodeMessages.{taking_held}
+use Rattle.kt_node.specs.NodeSteps.{asking}
 use Rattle.kt_node.specs.Nets.{Net, has_some, front_acts, net_acts, net_run, opening_net}
 use Rattle.kt_node.specs.Erasing.{erased_parcels, name_in}
 use Rattle.kt_node.proofs.Done.{Shows, IsDone, done_nothing, done_heard}

@@ -13,13 +13,14 @@ use Rattle.kt_machine.specs.Transition.{is_seen_ready}
 use Rattle.kt_machine.specs.Values.{Act, Keep, Drop, closing as acts_of_closing}
 use Rattle.kt_machine.specs.SeenActs.{seen_acts_arriving, seen_acts_ending, seen_acts_settling, seen_acts_asked, seen_acts_replied, seen_acts_decided, seen_acts_beginning, seen_acts_starting}
 use Rattle.kt_spacetime.specs.declared.names.InstName.{InstName}
-use Rattle.kt_node.specs.declared.parcels.NodeParcel.TheVariants as put
-use Rattle.kt_node.specs.Nodes.{NodeState, Doing, nothing, is_in_rollback}
-use Rattle.kt_node.specs.Nodes as input
-use Rattle.kt_node.specs.NodeMessages.{arriving}
-use Rattle.kt_node.specs.NodeJoining.{next_name, beginning, joining_checkpoint, joining_rollback}
-use Rattle.kt_node.specs.NodeClosing.{ending, settling}
-use Rattle.kt_node.specs.NodeSteps.{starting, told_to_begin, asked_outside, asked, awaits, heeds, counting, taking, is_step, node_after}
+use Rattle.kt_manager.specs.declared.parcels.NodeParcel.TheVariants as put
+use Rattle.kt_manager.specs.Nodes.{NodeState, Doing, nothing, is_in_rollback}
+use Rattle.kt_node.specs.Inputs as input
+use Rattle.kt_manager.specs.NodeMessages.{arriving}
+use Rattle.kt_manager.specs.NodeJoining.{beginning, joining_checkpoint, joining_rollback}
+use Rattle.kt_node.specs.NodeSteps.{next_name, awaits, heeds, taking, is_step, node_after}
+use Rattle.kt_manager.specs.NodeClosing.{ending, settling}
+use Rattle.kt_manager.specs.NodeSteps.{starting, told_to_begin, asked_outside, asked, counting}
 use Rattle.kt_node.specs.Nets.{Net}
 use Rattle.kt_node.proofs.Done.{IsDone}
 use Rattle.kt_node.proofs.Takings.{MayHeed, heed_test, await_test, ready_test}
@@ -64,20 +65,20 @@ module _ (name : ℕ → InstName) (first : ℕ) (w : Net) (p : ℕ) (count : �
   acts_arriving q label body = acts_if y.up (v.states p).up _ _ _ _ (ap (λ (x : NodeState). x.up) h.state) refl refl
 
   -- commands
-  starts : (roll : Bool) → (starting y roll).acts ≡ seen_acts_beginning v p roll
-  starts false = acts_settling (next_name y) (joining_checkpoint (next_name y) None (beginning y false))
+  starts : (roll : Bool) → (starting (next_name y) y roll).acts ≡ seen_acts_beginning v p roll
+  starts false = acts_settling (next_name y) (joining_checkpoint (next_name y) None (beginning (next_name y) y false))
       ∙ ap (λ (x : NodeState). Keep ∷ (if count_peers x.processes (is_asked_in_checkpoint x.calls) == 0 then acts_of_closing false true else [])) h.state
-  starts true = acts_settling (next_name y) (joining_rollback (next_name y) None no_note (beginning y true))
+  starts true = acts_settling (next_name y) (joining_rollback (next_name y) None no_note (beginning (next_name y) y true))
       ∙ ap (λ (x : NodeState). if count_peers x.processes (is_asked_in_rollback x.calls) == 0 then acts_of_closing true true else []) h.state
 
-  begins : (roll able : Bool) → (told_to_begin None y roll able).acts ≡ seen_acts_starting v p roll able
+  begins : (roll able : Bool) → (told_to_begin (next_name y) None y roll able).acts ≡ seen_acts_starting v p roll able
   begins true able = starts true
   begins false able = acts_if (able && y.up) (able && (v.states p).up) _ _ _ _ (ap (λ (x : NodeState). able && x.up) h.state) (starts false) refl
 
   pub acts_begin : (roll able : Bool) → (node_after y (input.Begin roll able)).acts ≡ (if (v.states p).inst == 0 then seen_acts_starting v p roll able else [])
-  acts_begin roll able = ap (λ (x : NodeState). (told_to_begin x.inst y roll able).acts) h.state ∙ at_inst ((v.states p).inst == 0)
+  acts_begin roll able = ap (λ (x : NodeState). (told_to_begin (next_name y) x.inst y roll able).acts) h.state ∙ at_inst ((v.states p).inst == 0)
     where
-      at_inst : (b : Bool) → (told_to_begin (if b then None else Some (name (v.states p).inst)) y roll able).acts ≡ (if b then seen_acts_starting v p roll able else [])
+      at_inst : (b : Bool) → (told_to_begin (next_name y) (if b then None else Some (name (v.states p).inst)) y roll able).acts ≡ (if b then seen_acts_starting v p roll able else [])
       at_inst true = begins roll able
       at_inst false = refl
 

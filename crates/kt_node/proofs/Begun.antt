@@ -22,11 +22,12 @@ use Rattle.kt_protocol.specs.OnceClosed.{once_closed}
 use Rattle.kt_machine.specs.Labelling.{Labelling, labelling}
 use Rattle.kt_machine.specs.Seen.{seen_parcels}
 use Rattle.kt_machine.proofs.Runs.{known_run}
-use Rattle.kt_node.specs.declared.parcels.NodeParcel.{NodeParcel}
-use Rattle.kt_node.specs.declared.parcels.NodeParcel.TheVariants.{Ask}
-use Rattle.kt_node.specs.declared.parcels.NodeParcel.TheVariants as put
-use Rattle.kt_node.specs.Nodes.{NodeState}
-use Rattle.kt_node.specs.NodeSteps.{is_one, is_in, is_begun, heeds}
+use Rattle.kt_manager.specs.declared.parcels.NodeParcel.{NodeParcel}
+use Rattle.kt_manager.specs.declared.parcels.NodeParcel.TheVariants.{Ask}
+use Rattle.kt_manager.specs.declared.parcels.NodeParcel.TheVariants as put
+use Rattle.kt_manager.specs.Nodes.{NodeState}
+use Rattle.kt_manager.specs.NodeSteps.{is_one, is_in}
+use Rattle.kt_node.specs.NodeSteps.{is_begun, heeds}
 use Rattle.kt_node.specs.Nets.{net_run, opening_net}
 use Rattle.kt_node.specs.Erasing.{name_in, erased_inst, erased_parcels}
 use Rattle.kt_node.proofs.Naming.{naming_of_log}

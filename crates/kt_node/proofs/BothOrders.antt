@@ -9,7 +9,8 @@ use Rattle.kt_meaning.specs.Past.{at_one}
 use Rattle.kt_protocol.specs.States.{ProtocolStep}
 use Rattle.kt_machine.specs.Acts.{stepper}
 use Rattle.kt_spacetime.specs.declared.named_rows.NamedEvent.{NamedEvent}
-use Rattle.kt_node.specs.Nodes.{NodeState, Input, Doing}
+use Rattle.kt_manager.specs.Nodes.{NodeState, Doing}
+use Rattle.kt_node.specs.Inputs.{Input}
 use Rattle.kt_spacetime.specs.declared.named_rows.ClockedRow.{ClockedRow}
 use Rattle.kt_spacetime.specs.ClockedRows.{rows_of}
 use Rattle.kt_node.specs.Clocks.{Envelope, ClockedNet, envelope, clocked_row, source_of, input_at, clock_after, clocked_doing, at_input, clocked_step}

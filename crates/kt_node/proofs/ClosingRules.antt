@@ -15,10 +15,10 @@ use Rattle.kt_machine.specs.Values.{closing as acts_of_closing}
 use Rattle.kt_spacetime.specs.declared.names.InstName.{InstName}
 use Rattle.kt_spacetime.specs.declared.named_rows.NamedEvent.TheVariants as own
 use Rattle.kt_meaning.specs.Names.{row_of}
-use Rattle.kt_node.specs.declared.parcels.NodeParcel.{NodeParcel}
-use Rattle.kt_node.specs.declared.parcels.NodeParcel.TheVariants as put
-use Rattle.kt_node.specs.Nodes.{NodeState, Doing, putting, with_one}
-use Rattle.kt_node.specs.NodeClosing.{forgets, within, after_checkpoint, after_rollback, closing, ending, settling}
+use Rattle.kt_manager.specs.declared.parcels.NodeParcel.{NodeParcel}
+use Rattle.kt_manager.specs.declared.parcels.NodeParcel.TheVariants as put
+use Rattle.kt_manager.specs.Nodes.{NodeState, Doing, putting, with_one}
+use Rattle.kt_manager.specs.NodeClosing.{forgets, within, after_checkpoint, after_rollback, closing, ending, settling}
 use Rattle.kt_node.specs.Nets.{Net}
 use Rattle.kt_node.specs.Erasing.{erased_parcel, erased_parcels}
 use Rattle.kt_node.proofs.Told.{Told, told_decided, told_closed}

@@ -3,7 +3,7 @@ use Rattle.std.proofs.Common.{◌≡◌, ◌≢◌, ◌∙◌, ℕ, ◌+◌, ◌
 use Rattle.std.specs.Prelude.{◌==◌, ◌&&◌, if◌then◌else◌, Option, Result, Ok, Err, IsErr, IsErrAnd, slice_index, slice_index_or, slice_set}
 use Rattle.std.proofs.lemmas.Option.{get_or_from_slice_get}
 use Rattle.kt_meaning.proofs.Items.{item_there}
-use Rattle.kt_system.specs.ShownActs.{acts_shown}
+use Rattle.kt_manager.specs.ShownActs.{acts_shown}
 use Rattle.std.proofs.Math.Seq.{get_or-append_seam}
 use Rattle.std.proofs.lemmas.Bool.{cases_eq}
 use Rattle.std.proofs.lemmas.List.{get_or-set_same, get_or-set_other, get_or_append_left, length-set, length_push}
@@ -17,12 +17,13 @@ use Rattle.kt_spacetime.specs.declared.event.Event.{Event}
 use Rattle.kt_spacetime.specs.declared.named_rows.NamedEvent.{NamedEvent}
 use Rattle.kt_spacetime.specs.declared.named_rows.NamedRow.{NamedRow}
 use Rattle.kt_tables.specs.Calls.{Speaks}
-use Rattle.kt_node.specs.Nodes.{NodeState, Input}
+use Rattle.kt_manager.specs.Nodes.{NodeState}
+use Rattle.kt_node.specs.Inputs.{Input}
 use Rattle.kt_node.specs.NodeSteps.{node_after}
 use Rattle.kt_node.specs.Nets.{Net, net_step, net_run, opening_net}
 use Rattle.kt_node.specs.Clocks.{Envelope, ClockedNet, envelope, clocked_row, source_of, input_at, clock_after, left_after, clocked_input, clocked_doing, at_input, clocked_step, clocked_run, opening_clocked, acts_at, clocked_acts}
 use Rattle.kt_node.specs.Erasing.{rows_from}
-use Rattle.kt_node.specs.declared.parcels.NodeParcel.{NodeParcel}
+use Rattle.kt_manager.specs.declared.parcels.NodeParcel.{NodeParcel}
 use Rattle.kt_spacetime.specs.declared.named_rows.ClockedRow.{ClockedRow}
 use Rattle.kt_node.proofs.Unclocked.{step_unclocked, run_unclocked, rows_unclocked}
 use Rattle.kt_node.specs.declared.cluster.ClusterFault.{ClusterFault}
@@ -31,11 +32,11 @@ use Rattle.kt_node.specs.declared.cluster.OnWay.{OnWay}
 use Rattle.kt_node.specs.declared.node.Output.{Output}
 use Rattle.kt_node.specs.declared.reach.Reaches.{Reaches}
 use Rattle.kt_node.specs.Clusters.{ClusterState, link, ShowsClocked, ShowsNet, net_after, IsRun, ArePromised, AreFresh, coming, coming_to, IsRefusedIn, IsSpent, IsSpentIn, IsSpentAs, doing_at, IsPutOut, HasNextNumbers, IsSpeakable, IsTurn}
-use Rattle.kt_node.specs.Effects.{put_to, rows_told}
+use Rattle.kt_manager.specs.Effects.{put_to}
 use Rattle.kt_node.specs.Links.{NodeLinks, IsSameNode}
 use Rattle.kt_node.specs.Managers.{ShowsNode}
 use Rattle.kt_node.specs.Reaches.{HasReaches}
-use Rattle.kt_node.proofs.Messages.{shows_same}
+use Rattle.kt_node.proofs.Guards.{shows_same}
 use Rattle.kt_node.proofs.Runs.{nodes_shown}
 
 pub size_set : (nodes : List NodeLinks) (p : ℕ) (new : NodeLinks) → length (slice_set nodes p new) ≡ length nodes
@@ -75,7 +76,7 @@ comes_there c w x i s b e = ap (input_at (w.nodes (stepper x)) x) (sym (s.links 
 pub shows_turn : (c : ClusterState) (w : ClockedNet) (x : ProtocolStep) (old new : NodeLinks) (after way : List OnWay) (rows : List ClockedRow) (out : Output) → ShowsNet c w → stepper x < 64 → stepper x < length c.nodes → old ≡ slice_index_or c.nodes (stepper x) old
     → IsTurn old new c.on_way after (w.nodes (stepper x)) x out
     → ((u v : ℕ) → v < 64 → link way u v ≡ link after u v ++ (if u == stepper x then map (envelope out.clock) (put_to out.effects.parcels v) else []))
-    → rows ≡ c.rows ++ map (clocked_row (stepper x) out.clock) (rows_told out.effects.rows)
+    → rows ≡ c.rows ++ map (clocked_row (stepper x) out.clock) out.effects.rows
     → ShowsNet (record { nodes = slice_set c.nodes (stepper x) new; on_way = way; rows = rows; first = c.first }) (clocked_step w x)
 shows_turn c w x old new after way rows out s few b is t put told =
     let p = stepper x in
@@ -200,7 +201,7 @@ module _ (c : ClusterState) (x : ProtocolStep) (nodes : List NodeLinks) (after w
       (turn : (y : NodeState) (k : NodeLinks) → ShowsNode (slice_index_or c.nodes (stepper x) k).manager y → IsSpeakable y x (link c.on_way (source_of x) (stepper x))
       → IsTurn (slice_index_or c.nodes (stepper x) k) (slice_index_or nodes (stepper x) k) c.on_way after y x out)
       (put : (u v : ℕ) → v < 64 → link way u v ≡ link after u v ++ (if u == stepper x then map (envelope out.clock) (put_to out.effects.parcels v) else []))
-      (told : rows ≡ c.rows ++ map (clocked_row (stepper x) out.clock) (rows_told out.effects.rows)) (steps : List ProtocolStep) (s : IsRun c steps) where
+      (told : rows ≡ c.rows ++ map (clocked_row (stepper x) out.clock) out.effects.rows) (steps : List ProtocolStep) (s : IsRun c steps) where
     its_turn : IsTurn stepping.0 (slice_index_or nodes (stepper x) stepping.0) c.on_way after ((net_after c steps).nodes (stepper x)) x out
     its_turn = subst (λ (o : NodeLinks). IsTurn o (slice_index_or nodes (stepper x) stepping.0) c.on_way after ((net_after c steps).nodes (stepper x)) x out) stepping.1
         (turn ((net_after c steps).nodes (stepper x)) stepping.0 (s.nodes (stepper x) stepping.0 b).node.manager (speaks_there law c steps x s few))

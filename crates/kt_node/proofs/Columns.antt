@@ -10,9 +10,9 @@ use Rattle.kt_protocol.proofs.Updates.{is_same, is_other}
 use Rattle.kt_machine.specs.Seen.{SeenLists}
 use Rattle.kt_machine.specs.ListChanges as changes
 use Rattle.kt_spacetime.specs.declared.names.InstName.{InstName}
-use Rattle.kt_node.specs.declared.parcels.NodeParcel.{NodeParcel}
-use Rattle.kt_node.specs.Nodes.{NodeLists, putting, with_one}
-use Rattle.kt_node.specs.NodeClosing.{is_within, within}
+use Rattle.kt_manager.specs.declared.parcels.NodeParcel.{NodeParcel}
+use Rattle.kt_manager.specs.Nodes.{NodeLists, putting, with_one}
+use Rattle.kt_manager.specs.NodeClosing.{is_within, within}
 use Rattle.kt_node.specs.Erasing.{erased_parcel, erased_parcels}
 
 -- with one more parcel from p to each process that passes the test

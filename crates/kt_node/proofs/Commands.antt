@@ -21,12 +21,13 @@ use Rattle.kt_spacetime.specs.declared.names.InstName.{InstName}
 use Rattle.kt_spacetime.specs.declared.named_rows.NamedCause.TheVariants as own_cause
 use Rattle.kt_meaning.specs.Names.{nothing_given, numbered_cause}
 use Rattle.kt_meaning.proofs.GivenFacts.{none_given}
-use Rattle.kt_node.specs.Nodes.{NodeState, Doing, nothing}
-use Rattle.kt_node.specs.Nodes as input
-use Rattle.kt_node.specs.NodeMessages.{unable}
-use Rattle.kt_node.specs.NodeJoining.{beginning, joining_checkpoint, joining_rollback}
-use Rattle.kt_node.specs.NodeClosing.{settling}
-use Rattle.kt_node.specs.NodeSteps.{starting, told_to_begin, is_step, node_after}
+use Rattle.kt_manager.specs.Nodes.{NodeState, Doing, nothing}
+use Rattle.kt_node.specs.Inputs as input
+use Rattle.kt_manager.specs.NodeMessages.{unable}
+use Rattle.kt_manager.specs.NodeJoining.{beginning, joining_checkpoint, joining_rollback}
+use Rattle.kt_manager.specs.NodeClosing.{settling}
+use Rattle.kt_manager.specs.NodeSteps.{starting, told_to_begin}
+use Rattle.kt_node.specs.NodeSteps.{next_name, is_step, node_after}
 use Rattle.kt_node.specs.Nets.{Net}
 use Rattle.kt_node.proofs.Naming.{IsNaming, all_given, naming_before, given_more_rows}
 use Rattle.kt_node.proofs.Told.{given}
@@ -78,12 +79,12 @@ module _ (name : ℕ → InstName) (first : ℕ) (w : Net) (p : ℕ) (count : �
 
   module _ (y : NodeState) (v : Seen) (h : IsDone name first w p count (nothing y) v) where
     -- p begins an instance
-    pub ends_starting : (roll : Bool) → IsNaming name (given (seen_beginning v p roll).log) → Ended (starting y roll) (seen_beginning v p roll)
+    pub ends_starting : (roll : Bool) → IsNaming name (given (seen_beginning v p roll).log) → Ended (starting (next_name y) y roll) (seen_beginning v p roll)
     ends_starting false n =
         let joined = seen_joining_checkpoint (seen_began v p false) v.channel p (v.begun + 1) None in
         let began = done_beginning name first w p count y v false (naming_of_grown name _ (seen_settling joined p (v.begun + 1)) (more _ joined (seen_settling joined p (v.begun + 1)) (_ ∷ [], refl) (settles_grown joined p (v.begun + 1))) n) h in (
           at_one p (count p + 1) count,
-          subst (λ (k : InstName). IsDone name first w p (at_one p (count p + 1) count) (settling k (joining_checkpoint k None (beginning y false))) (seen_beginning v p false)) (sym began.1)
+          subst (λ (k : InstName). IsDone name first w p (at_one p (count p + 1) count) (settling k (joining_checkpoint k None (beginning (next_name y) y false))) (seen_beginning v p false)) (sym began.1)
               (done_settling name first w p (at_one p (count p + 1) count) _ _ (v.begun + 1) (omega arith) (omega arith)
               (done_joining_checkpoint name first w p (at_one p (count p + 1) count) _ (seen_began v p false) (v.begun + 1) None (omega arith) (omega arith) began.0)),
         )
@@ -91,25 +92,25 @@ module _ (name : ℕ → InstName) (first : ℕ) (w : Net) (p : ℕ) (count : �
         let joined = seen_joining_rollback (seen_began v p true) v.channel p (v.begun + 1) None no_note in
         let began = done_beginning name first w p count y v true (naming_of_grown name _ (seen_settling joined p (v.begun + 1)) (more _ joined (seen_settling joined p (v.begun + 1)) (_ ∷ [], refl) (settles_grown joined p (v.begun + 1))) n) h in (
           at_one p (count p + 1) count,
-          subst (λ (k : InstName). IsDone name first w p (at_one p (count p + 1) count) (settling k (joining_rollback k None no_note (beginning y true))) (seen_beginning v p true)) (sym began.1)
+          subst (λ (k : InstName). IsDone name first w p (at_one p (count p + 1) count) (settling k (joining_rollback k None no_note (beginning (next_name y) y true))) (seen_beginning v p true)) (sym began.1)
               (done_settling name first w p (at_one p (count p + 1) count) _ _ (v.begun + 1) (omega arith) (omega arith)
               (done_joining_rollback name first w p (at_one p (count p + 1) count) _ (seen_began v p true) (v.begun + 1) None no_note (omega arith) (omega arith) began.0)),
         )
 
-    begins_outside : (roll able : Bool) → IsNaming name (given (seen_begin_command v p roll able).log) → Ended (told_to_begin None y roll able) (seen_begin_command v p roll able)
+    begins_outside : (roll able : Bool) → IsNaming name (given (seen_begin_command v p roll able).log) → Ended (told_to_begin (next_name y) None y roll able) (seen_begin_command v p roll able)
     begins_outside true able n = ends_starting true n
     begins_outside false able n = choose_ended (able && y.up) (able && (v.states p).up) _ _ _ _ (ap (λ (x : NodeState). able && x.up) h.state) n
         (λ e m. ends_starting false m)
         (λ e m. (count, done_refusing name first w p count y v h verb.Checkpoint (unable y.up) (unable_cause (v.states p).up) (ap (λ (x : NodeState). numbered_cause (given v.log) (unable x.up)) h.state ∙ cause_unable name first w p count y v h (v.states p).up)))
 
     pub ends_begin : (roll able : Bool) → (v.states p).inst ≤ v.begun → IsNaming name (given (transition v (step.Begin p roll able)).log) → Ended (node_after y (input.Begin roll able)) (transition v (step.Begin p roll able))
-    ends_begin roll able low n = subst (λ (o : Option InstName). Ended (told_to_begin o y roll able) (transition v (step.Begin p roll able))) (sym (ap (λ (x : NodeState). x.inst) h.state)) (at_inst ((v.states p).inst == 0) refl n)
+    ends_begin roll able low n = subst (λ (o : Option InstName). Ended (told_to_begin (next_name y) o y roll able) (transition v (step.Begin p roll able))) (sym (ap (λ (x : NodeState). x.inst) h.state)) (at_inst ((v.states p).inst == 0) refl n)
       where
         some : (k : ℕ) → (k == 0) ≡ false → 1 ≤ k
         some k e = grind (arith, nat_tests, e)
 
         at_inst : (b : Bool) → ((v.states p).inst == 0) ≡ b → IsNaming name (given (if b then seen_begin_command v p roll able else seen_refusal v p (verb_for roll) (Busy (v.states p).inst)).log)
-            → Ended (told_to_begin (if b then None else Some (name (v.states p).inst)) y roll able) (if b then seen_begin_command v p roll able else seen_refusal v p (verb_for roll) (Busy (v.states p).inst))
+            → Ended (told_to_begin (next_name y) (if b then None else Some (name (v.states p).inst)) y roll able) (if b then seen_begin_command v p roll able else seen_refusal v p (verb_for roll) (Busy (v.states p).inst))
         at_inst true e m = begins_outside roll able m
         at_inst false e m = (count, done_refusing name first w p count y v h (verb_for roll) (own_cause.Busy (name (v.states p).inst)) (Busy (v.states p).inst) (cause_busy name first w p count y v h (v.states p).inst (some (v.states p).inst e) low))
 

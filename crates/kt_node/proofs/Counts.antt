@@ -2,20 +2,22 @@
 use Rattle.std.proofs.Common.{◌≡◌, ◌≢◌, ◌∙◌, ℕ, zero, suc, ◌+◌, ◌<◌, ◌≤◌, true, false, List, length, refl, arith, sym, ap, ap₂, subst, ◌++◌, inl, inr}
 use Rattle.std.specs.Prelude.{max, replicate, slice_index, slice_set, Option, Some, None, is_some}
 use Rattle.std.specs.Option.{option_to_list}
-use Rattle.kt_node.specs.declared.parcels.NodeParcel.{NodeParcel}
+use Rattle.kt_manager.specs.declared.parcels.NodeParcel.{NodeParcel}
 use Rattle.std.proofs.lemmas.Bool.{cases_eq}
 use Rattle.std.proofs.lemmas.List.{get_or-set_same, get_or-set_other, length-set}
 use Rattle.kt_meaning.specs.Past.{at_one}
 use Rattle.kt_protocol.proofs.Updates.{at_one_here, at_one_other}
 use Rattle.kt_tables.specs.Calls.{Call}
-use Rattle.kt_node.specs.Nodes.{NodeState, Input}
+use Rattle.kt_manager.specs.Nodes.{NodeState}
+use Rattle.kt_node.specs.Inputs.{Input}
 use Rattle.kt_node.specs.NodeSteps.{node_after}
 use Rattle.kt_node.specs.NodeHistories.{calls_told}
 use Rattle.kt_node.proofs.NodeCalls.{step_tells}
-use Rattle.kt_node.specs.declared.effects.Effects.{Effects}
+use Rattle.kt_manager.specs.Told.{Told}
 use Rattle.kt_node.specs.declared.node.Output.{Output}
 use Rattle.kt_node.specs.declared.reach.Reaches.{Reaches}
-use Rattle.kt_node.specs.Effects.{IsDone, put_to, calls_of}
+use Rattle.kt_node.specs.Effects.{IsDone, calls_of}
+use Rattle.kt_manager.specs.Effects.{put_to}
 use Rattle.kt_node.specs.Reaches.{HasReaches}
 use Rattle.kt_node.specs.Links.{NodeLinks, IsStep}
 use Rattle.kt_node.specs.Managers.{ManagerState}
@@ -42,11 +44,11 @@ set_within xs i v c b l h q = elim (cases_eq q i) [
 ]
 
 -- a step: its manager did this, its parcels were counted, and its messages followed
-pub step_of : (old new : NodeLinks) (m : ManagerState) (before : List ℕ) (came clock : ℕ) (y : NodeState) (x : Input) (e : Effects) (out : Output) → IsDone m e (node_after y x) → clock ≡ max old.clock came + 1 → new.manager ≡ m → new.clock ≡ clock → before ≡ old.sent
+pub step_of : (old new : NodeLinks) (m : ManagerState) (before : List ℕ) (came clock : ℕ) (y : NodeState) (x : Input) (e : Told) (out : Output) → IsDone m e (node_after y x) → clock ≡ max old.clock came + 1 → new.manager ≡ m → new.clock ≡ clock → before ≡ old.sent
     → ((q : ℕ) → q < 64 → slice_index new.sent q ≡ slice_index before q + length (put_to e.parcels q)) → out.effects ≡ e → out.from ≡ new.manager.me → out.clock ≡ clock → out.numbers ≡ new.sent
     → (HasReaches old.reaches y.calls → HasReaches new.reaches (y.calls ++ calls_of e)) → IsStep old new came y x out
 step_of old new m before came clock y x e out done ticks manager is same sent effects sender told numbers reaches = record {
-  done = subst (λ (w : ManagerState). IsDone w out.effects (node_after y x)) (sym manager) (subst (λ (z : Effects). IsDone m z (node_after y x)) (sym effects) done);
+  done = subst (λ (w : ManagerState). IsDone w out.effects (node_after y x)) (sym manager) (subst (λ (z : Told). IsDone m z (node_after y x)) (sym effects) done);
   sender = sender;
   clock = is ∙ ticks;
   told = told ∙ sym is;

@@ -12,7 +12,7 @@ use Rattle.kt_spacetime.specs.declared.names.InstName.{InstName}
 use Rattle.kt_spacetime.specs.declared.named_rows.NamedEvent.{NamedEvent}
 use Rattle.kt_spacetime.specs.declared.named_rows.NamedRow.{NamedRow}
 use Rattle.kt_meaning.specs.Names.{row_of}
-use Rattle.kt_node.specs.Nodes.{NodeState, Doing, nothing}
+use Rattle.kt_manager.specs.Nodes.{NodeState, Doing, nothing}
 use Rattle.kt_node.specs.Nets.{Net, with_doing}
 use Rattle.kt_node.specs.Erasing.{erased_parcels, erased_process}
 use Rattle.kt_node.proofs.Told.{Told}

@@ -14,10 +14,11 @@ use Rattle.kt_machine.specs.Labelling.{Labelling, labelling}
 use Rattle.kt_machine.specs.Seen.{Seen, no_part, part_of, seen_parcels, seen}
 use Rattle.kt_machine.proofs.Runs.{known_run, tells_runs}
 use Rattle.kt_spacetime.specs.declared.names.InstName.{InstName}
-use Rattle.kt_node.specs.declared.parcels.NodeParcel.{NodeParcel}
-use Rattle.kt_node.specs.declared.parcels.NodeParcel.TheVariants as put
-use Rattle.kt_node.specs.Nodes.{NodeState, Input, nothing, is_in_rollback}
-use Rattle.kt_node.specs.Nodes as input
+use Rattle.kt_manager.specs.declared.parcels.NodeParcel.{NodeParcel}
+use Rattle.kt_manager.specs.declared.parcels.NodeParcel.TheVariants as put
+use Rattle.kt_manager.specs.Nodes.{NodeState, nothing, is_in_rollback}
+use Rattle.kt_node.specs.Inputs.{Input}
+use Rattle.kt_node.specs.Inputs as input
 use Rattle.kt_node.specs.Nets.{Net, with_rest, has_some, net_front, net_step}
 use Rattle.kt_node.specs.Erasing.{erased_parcels, erased_inst}
 use Rattle.kt_node.proofs.Done.{Shows, IsDone, done_nothing}

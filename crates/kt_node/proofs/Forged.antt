@@ -5,10 +5,12 @@ use Rattle.std.proofs.lemmas.Bool.Decides.{nat_tests}
 use Rattle.kt_base.specs.declared.words.Kind.{Kind}
 use Rattle.kt_protocol.proofs.Updates.{at_one_here}
 use Rattle.kt_spacetime.specs.declared.names.InstName.{InstName}
-use Rattle.kt_node.specs.declared.parcels.NodeParcel.TheVariants.{Ask, Reply, Decide}
-use Rattle.kt_node.specs.Nodes.{NodeState, Doing, Comes, nothing, is_in_rollback}
-use Rattle.kt_node.specs.NodeClosing.{after_checkpoint, after_rollback, closing, ending, settling}
-use Rattle.kt_node.specs.NodeSteps.{is_in, is_begun, awaits, heeds, counting, node_after}
+use Rattle.kt_manager.specs.declared.parcels.NodeParcel.TheVariants.{Ask, Reply, Decide}
+use Rattle.kt_manager.specs.Nodes.{NodeState, Doing, nothing, is_in_rollback}
+use Rattle.kt_node.specs.Inputs.{Comes}
+use Rattle.kt_manager.specs.NodeClosing.{after_checkpoint, after_rollback, closing, ending, settling}
+use Rattle.kt_manager.specs.NodeSteps.{is_in, counting}
+use Rattle.kt_node.specs.NodeSteps.{is_begun, awaits, heeds, node_after}
 use Rattle.kt_node.specs.Nets.{has_some}
 use Rattle.kt_node.specs.Faults.{stranger, or_else, fault_at}
 use Rattle.kt_node.specs.declared.faults.ManagerFault.{ManagerFault}

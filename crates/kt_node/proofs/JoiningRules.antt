@@ -17,9 +17,10 @@ use Rattle.kt_machine.specs.SeenJoining.{new_part, no_note, seen_began, seen_joi
 use Rattle.kt_spacetime.specs.declared.names.InstName.{InstName}
 use Rattle.kt_spacetime.specs.declared.named_rows.NamedEvent.TheVariants as own
 use Rattle.kt_meaning.specs.Names.{name_of, row_of}
-use Rattle.kt_node.specs.declared.parcels.NodeParcel.TheVariants as put
-use Rattle.kt_node.specs.Nodes.{NodeState, Doing, nothing}
-use Rattle.kt_node.specs.NodeJoining.{next_name, beginning, joining_checkpoint, joining_rollback, noting}
+use Rattle.kt_manager.specs.declared.parcels.NodeParcel.TheVariants as put
+use Rattle.kt_manager.specs.Nodes.{NodeState, Doing, nothing}
+use Rattle.kt_manager.specs.NodeJoining.{beginning, joining_checkpoint, joining_rollback, noting}
+use Rattle.kt_node.specs.NodeSteps.{next_name}
 use Rattle.kt_node.specs.Nets.{Net}
 use Rattle.kt_node.specs.Erasing.{erased_inst, erased_parcel, erased_parcels}
 use Rattle.kt_node.proofs.Naming.{IsNaming}
@@ -88,7 +89,7 @@ module _ (name : ℕ → InstName) (first : ℕ) (w : Net) (p : ℕ) (count : �
 
   -- it begins the next instance, which has the next of its names
   pub done_beginning : (y : NodeState) (v : Seen) (roll : Bool) → IsNaming name (given (v.log ++ row.Began p (v.begun + 1) (kind_for roll) ∷ [])) → IsDone name first w p count (nothing y) v
-      → (IsDone name first w p (at_one p (count p + 1) count) (beginning y roll) (seen_began v p roll)) × (next_name y ≡ name (v.begun + 1))
+      → (IsDone name first w p (at_one p (count p + 1) count) (beginning (next_name y) y roll) (seen_began v p roll)) × (next_name y ≡ name (v.begun + 1))
   done_beginning y v roll n h = (
     record {
       state = ap (λ (x : NodeState). record x { begun = x.begun + 1 }) h.state ∙ (λ i. record (node_of name first count v p y) { begun = sym (at_one_here p (count p + 1) count) i });

@@ -37,25 +37,18 @@ pub mod NearNets
 pub mod NodeKeeps
 pub mod NodeCalls
 pub mod NodeCheckpoints
-pub mod Lists
-pub mod Processes
-pub mod Asks
-pub mod Settling
-pub mod Beginning
-pub mod Hearing
 pub mod Replying
-pub mod Messages
 pub mod Counts
 pub mod Speaking
 pub mod Meets
 pub mod Reaching
-pub mod Looking
 mod NetMerges
 pub mod OnWay
 pub mod Clustering
 pub mod Turning
 pub mod Spending
-pub mod Wanting
 pub mod OwnMarks
 pub mod CallHistories
 pub mod NetHistories
+pub mod Guards
+pub mod HeldLabels

@@ -1,15 +1,15 @@
 -- What is known of a parcel that a node meets.
-use Rattle.std.specs.Prelude.{◌==◌, ◌&&◌, nat_lt, nat_le, if◌then◌else◌, Result, Ok, Err, IfOk}
+use Rattle.std.specs.Prelude.{◌==◌, ◌&&◌, nat_lt, nat_le, if◌then◌else◌, Result, Ok, Err, OnOk}
 use Rattle.std.proofs.Common.{◌≡◌, ◌<◌, ℕ, max, Bool, true, false, not, refl, arith}
 use Rattle.std.proofs.lemmas.Bool.Decides.{nat_tests}
 use Rattle.kt_tables.specs.Calls.{Speaks}
 use Rattle.kt_node.specs.declared.node.Envelope.{Envelope}
 use Rattle.kt_node.specs.declared.node.NodeFault.{NodeFault}
 use Rattle.kt_node.specs.declared.node.NodeFault.TheVariants as fault
-use Rattle.kt_node.specs.declared.node.Output.{Output}
-use Rattle.kt_node.specs.declared.parcels.NodeParcel.{NodeParcel}
-use Rattle.kt_node.specs.declared.parcels.NodeParcel.TheVariants.{App, Ask, Reply, Decide}
-use Rattle.kt_node.specs.Nodes.{NodeState, Held}
+use Rattle.kt_manager.specs.declared.parcels.NodeParcel.{NodeParcel}
+use Rattle.kt_manager.specs.declared.parcels.NodeParcel.TheVariants.{App, Ask, Reply, Decide}
+use Rattle.kt_manager.specs.Nodes.{NodeState}
+use Rattle.kt_node.specs.Inputs.{Held}
 use Rattle.kt_node.specs.NodeSteps.{node_after}
 use Rattle.kt_node.specs.Faults.{fault_at}
 use Rattle.kt_node.specs.Links.{NodeLinks, ShowsLinks, IsSpoken, IsNodeRefusedAs}
@@ -49,7 +49,7 @@ met_spoken w y q able e h b m =
     spoken (Decide k c) s = tt
 
 -- and for one that is held and rises
-pub held_done : (w : NodeLinks) (y : NodeState) (q : ℕ) (P : Output → Type 0) (r : Result Output NodeFault) → ShowsLinks w y → q < 64 → is_stale_held w q ≡ false → IsNodeRefusedAs (fault_at y (Held q)) r
-    → (Speaks ((node_after y (Held q)).state.calls) → IfOk r P) → IfOk r P
+pub held_done : {X : Type 0} (w : NodeLinks) (y : NodeState) (q : ℕ) (P : Type 0) (r : Result X NodeFault) → ShowsLinks w y → q < 64 → is_stale_held w q ≡ false → IsNodeRefusedAs (fault_at y (Held q)) r
+    → (Speaks ((node_after y (Held q)).state.calls) → OnOk r P) → OnOk r P
 held_done w y q P (Ok out) h b e refused f = f (held_speaks w y q h b e refused)
 held_done w y q P (Err x) h b e refused f = tt

@@ -23,10 +23,10 @@ use Rattle.kt_spacetime.specs.declared.named_rows.NamedEvent.{NamedEvent}
 use Rattle.kt_spacetime.specs.declared.named_rows.NamedEvent.TheVariants as own
 use Rattle.kt_spacetime.specs.declared.named_rows.NamedRow.{NamedRow}
 use Rattle.kt_meaning.specs.Names.{row_of, numbered_cause}
-use Rattle.kt_node.specs.declared.parcels.NodeParcel.TheVariants as put
-use Rattle.kt_node.specs.Nodes.{NodeLists, NodeState, Doing, nothing, with_one}
-use Rattle.kt_node.specs.NodeMessages.{sending, receiving, arriving, holding, failing, refusing, unable}
-use Rattle.kt_node.specs.NodeJoining.{replying, unwilling}
+use Rattle.kt_manager.specs.declared.parcels.NodeParcel.TheVariants as put
+use Rattle.kt_manager.specs.Nodes.{NodeLists, NodeState, Doing, nothing, with_one}
+use Rattle.kt_manager.specs.NodeMessages.{sending, receiving, arriving, holding, failing, refusing, unable}
+use Rattle.kt_manager.specs.NodeJoining.{replying, unwilling}
 use Rattle.kt_node.specs.Nets.{Net}
 use Rattle.kt_node.specs.Erasing.{erased_parcel, erased_parcels, erased_process}
 use Rattle.kt_node.proofs.Told.{Told, given, told_sent, told_received, told_dropped, told_failed, told_unwilling, told_refused, number_is}

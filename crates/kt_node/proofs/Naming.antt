@@ -13,7 +13,7 @@ use Rattle.kt_meaning.specs.Names.{Given, nothing_given, given_after, given_by, 
 use Rattle.std.proofs.lemmas.List.{length-append}
 use Rattle.kt_meaning.proofs.PlaceFacts.{map_some, then_some, same_test, tested, place_at, place_kept, at_kept, at_some}
 use Rattle.kt_meaning.proofs.GivenFacts.{AreGiven, none_given, given_more}
-use Rattle.kt_node.specs.NodeSteps.{is_one}
+use Rattle.kt_manager.specs.NodeSteps.{is_one}
 use Rattle.kt_node.specs.Erasing.{name_in}
 
 -- what is given is given by one process each

@@ -6,9 +6,9 @@ use Rattle.kt_protocol.proofs.Updates.{at_one_all}
 use Rattle.kt_machine.specs.Acts.{stepper}
 use Rattle.kt_node.specs.declared.node.Envelope.{Envelope as NodeEnvelope}
 use Rattle.kt_node.specs.declared.node.NodeFault.TheVariants as fault
-use Rattle.kt_node.specs.declared.parcels.NodeParcel.{NodeParcel}
-use Rattle.kt_node.specs.declared.parcels.NodeParcel.TheVariants.{App, Ask, Reply, Decide}
-use Rattle.kt_node.specs.Nodes.{Input, Send, Begin, Fail, Held, Comes}
+use Rattle.kt_manager.specs.declared.parcels.NodeParcel.{NodeParcel}
+use Rattle.kt_manager.specs.declared.parcels.NodeParcel.TheVariants.{App, Ask, Reply, Decide}
+use Rattle.kt_node.specs.Inputs.{Input, Send, Begin, Fail, Held, Comes}
 use Rattle.kt_node.specs.NodeSteps.{node_after}
 use Rattle.kt_node.specs.Clocks.{Envelope, envelope, source_of, front_input, input_at, clock_after}
 use Rattle.kt_node.specs.Links.{NodeLinks}

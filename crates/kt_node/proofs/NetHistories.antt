@@ -11,7 +11,7 @@ use Rattle.kt_protocol.specs.LateSteps.{late_run}
 use Rattle.kt_machine.specs.Done.{done}
 use Rattle.kt_machine.specs.Labelling.{labelling}
 use Rattle.kt_machine.proofs.RunActs.{legal_late}
-use Rattle.kt_node.specs.Nodes.{NodeState}
+use Rattle.kt_manager.specs.Nodes.{NodeState}
 use Rattle.kt_node.specs.Nets.{net_run, opening_net}
 use Rattle.kt_node.specs.Erasing.{rows_from}
 use Rattle.kt_node.specs.NodeHistories.{histories, GoesOn}

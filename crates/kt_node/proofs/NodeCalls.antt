@@ -14,13 +14,15 @@ use Rattle.kt_spacetime.specs.declared.names.InstName.{InstName}
 use Rattle.kt_spacetime.specs.declared.named_rows.NamedCause.TheVariants.{Down}
 use Rattle.kt_spacetime.specs.declared.named_rows.NamedEvent.{NamedEvent}
 use Rattle.kt_spacetime.specs.declared.named_rows.NamedEvent.TheVariants.{Dropped, Decided, Closed}
-use Rattle.kt_node.specs.declared.parcels.NodeParcel.{NodeParcel}
-use Rattle.kt_node.specs.declared.parcels.NodeParcel.TheVariants.{App, Ask, Reply, Decide}
-use Rattle.kt_node.specs.Nodes.{NodeState, Input, Send, Begin, Fail, Held, Comes, Doing, nothing, is_in_rollback}
-use Rattle.kt_node.specs.NodeMessages.{sending, receiving, arriving, taking_held, refusing}
-use Rattle.kt_node.specs.NodeJoining.{next_name, beginning, joining_checkpoint, joining_rollback, asking}
-use Rattle.kt_node.specs.NodeClosing.{after_checkpoint, after_rollback, closing, ending, settling}
-use Rattle.kt_node.specs.NodeSteps.{is_one, starting, told_to_begin, asked, awaits, heeds, counting, taking, is_step, node_after}
+use Rattle.kt_manager.specs.declared.parcels.NodeParcel.{NodeParcel}
+use Rattle.kt_manager.specs.declared.parcels.NodeParcel.TheVariants.{App, Ask, Reply, Decide}
+use Rattle.kt_manager.specs.Nodes.{NodeState, Doing, nothing, is_in_rollback}
+use Rattle.kt_node.specs.Inputs.{Input, Send, Begin, Fail, Held, Comes}
+use Rattle.kt_manager.specs.NodeMessages.{sending, receiving, arriving, taking_held, refusing}
+use Rattle.kt_manager.specs.NodeJoining.{beginning, joining_checkpoint, joining_rollback}
+use Rattle.kt_node.specs.NodeSteps.{next_name, asking, awaits, heeds, taking, is_step, node_after}
+use Rattle.kt_manager.specs.NodeClosing.{after_checkpoint, after_rollback, closing, ending, settling}
+use Rattle.kt_manager.specs.NodeSteps.{is_one, starting, told_to_begin, asked, counting}
 use Rattle.kt_node.specs.NodeHistories.{call_of_row, call_of_act, calls_told}
 
 -- what was done tells the calls that were made since this list
@@ -84,11 +86,11 @@ module _ (y : NodeState) where
   none : y.calls ≡ y.calls ++ []
   none = no_call y.calls
 
-  starting_tells : (roll : Bool) → Tells y.calls (starting y roll)
-  starting_tells false = settling_tells y.calls (next_name y) (joining_checkpoint (next_name y) None (beginning y false)) refl
-  starting_tells true = settling_tells y.calls (next_name y) (joining_rollback (next_name y) None no_note (beginning y true)) none
+  starting_tells : (roll : Bool) → Tells y.calls (starting (next_name y) y roll)
+  starting_tells false = settling_tells y.calls (next_name y) (joining_checkpoint (next_name y) None (beginning (next_name y) y false)) refl
+  starting_tells true = settling_tells y.calls (next_name y) (joining_rollback (next_name y) None no_note (beginning (next_name y) y true)) none
 
-  begin_tells : (o : Option InstName) (roll able : Bool) → Tells y.calls (told_to_begin o y roll able)
+  begin_tells : (o : Option InstName) (roll able : Bool) → Tells y.calls (told_to_begin (next_name y) o y roll able)
   begin_tells (Some name) roll able = none
   begin_tells None true able = starting_tells true
   begin_tells None false able = either_tells y.calls (able && y.up) _ _ (starting_tells false) none

@@ -11,13 +11,15 @@ use Rattle.kt_machine.specs.SeenJoining.{no_note}
 use Rattle.kt_spacetime.specs.declared.names.InstName.{InstName}
 use Rattle.kt_spacetime.specs.declared.named_rows.NamedCause.TheVariants.{Down, Busy}
 use Rattle.kt_spacetime.specs.declared.named_rows.NamedEvent.TheVariants.{Dropped}
-use Rattle.kt_node.specs.declared.parcels.NodeParcel.{NodeParcel}
-use Rattle.kt_node.specs.declared.parcels.NodeParcel.TheVariants.{App, Ask, Reply, Decide}
-use Rattle.kt_node.specs.Nodes.{NodeState, Input, Send, Begin, Fail, Held, Comes, Doing, nothing, is_in_rollback}
-use Rattle.kt_node.specs.NodeMessages.{sending, receiving, arriving, holding, taking_held, failing, refusing, unable}
-use Rattle.kt_node.specs.NodeJoining.{next_name, beginning, joining_checkpoint, joining_rollback, replying, unwilling, noting, asking}
-use Rattle.kt_node.specs.NodeClosing.{after_checkpoint, after_rollback, closing, ending, settling}
-use Rattle.kt_node.specs.NodeSteps.{is_one, is_in, starting, told_to_begin, asked, awaits, heeds, counting, taking, is_step, node_after}
+use Rattle.kt_manager.specs.declared.parcels.NodeParcel.{NodeParcel}
+use Rattle.kt_manager.specs.declared.parcels.NodeParcel.TheVariants.{App, Ask, Reply, Decide}
+use Rattle.kt_manager.specs.Nodes.{NodeState, Doing, nothing, is_in_rollback}
+use Rattle.kt_node.specs.Inputs.{Input, Send, Begin, Fail, Held, Comes}
+use Rattle.kt_manager.specs.NodeMessages.{sending, receiving, arriving, holding, taking_held, failing, refusing, unable}
+use Rattle.kt_manager.specs.NodeJoining.{beginning, joining_checkpoint, joining_rollback, replying, unwilling, noting}
+use Rattle.kt_node.specs.NodeSteps.{next_name, asking, awaits, heeds, taking, is_step, node_after}
+use Rattle.kt_manager.specs.NodeClosing.{after_checkpoint, after_rollback, closing, ending, settling}
+use Rattle.kt_manager.specs.NodeSteps.{is_one, is_in, starting, told_to_begin, asked, counting}
 use Rattle.kt_node.specs.Nets.{opening_net}
 use Rattle.kt_node.specs.NodeHistories.{Histories, no_history, histories_after, histories, GoesOn, is_in_checkpoint, HasCheckpoints}
 
@@ -131,11 +133,11 @@ module _ (before : List Call) where
   arrives z q label body k = either z.up (receiving z q label body) (record (nothing z) { rows = Dropped q label ∷ [] }) (with_message before z.calls (is_in_checkpoint z) (received q label) refl k) k
 
   module _ (y : NodeState) (h : Stays before y) where
-    begins : (o : Option InstName) (roll able : Bool) → Stays before (told_to_begin o y roll able).state
+    begins : (o : Option InstName) (roll able : Bool) → Stays before (told_to_begin (next_name y) o y roll able).state
     begins (Some name) roll able = h
-    begins None true able = settles (next_name y) (joining_rollback (next_name y) None no_note (beginning y true)) refl (outside (is_in_checkpoint y) (histories y.calls) h)
-    begins None false able = either (able && y.up) (starting y false) (refusing y verb.Checkpoint (unable y.up))
-        (settles (next_name y) (joining_checkpoint (next_name y) None (beginning y false)) refl (takes y.calls (is_in_checkpoint y) h)) h
+    begins None true able = settles (next_name y) (joining_rollback (next_name y) None no_note (beginning (next_name y) y true)) refl (outside (is_in_checkpoint y) (histories y.calls) h)
+    begins None false able = either (able && y.up) (starting (next_name y) y false) (refusing y verb.Checkpoint (unable y.up))
+        (settles (next_name y) (joining_checkpoint (next_name y) None (beginning (next_name y) y false)) refl (takes y.calls (is_in_checkpoint y) h)) h
 
     asks : (o : Option InstName) (q : ℕ) (able : Bool) (k : InstName) (roll : Bool) (label : ℕ) → Stays before (asked o y q able k roll label).state
     asks (Some name) q able k true label = either (is_one name k) (replying (noting y true q label) q k true) (unwilling y q k (Busy name)) h h

@@ -7,13 +7,15 @@ use Rattle.kt_machine.specs.CallTests.{must_take, must_roll}
 use Rattle.kt_machine.specs.SeenJoining.{no_note}
 use Rattle.kt_machine.specs.Values.{Act, Apply, Keep, Promote, Discard, Restore, Drop, closing as acts_of_closing}
 use Rattle.kt_spacetime.specs.declared.names.InstName.{InstName}
-use Rattle.kt_node.specs.declared.parcels.NodeParcel.{NodeParcel}
-use Rattle.kt_node.specs.declared.parcels.NodeParcel.TheVariants.{App, Ask, Reply, Decide}
-use Rattle.kt_node.specs.Nodes.{NodeState, Input, Send, Begin, Fail, Held, Comes, Doing, nothing, is_in_rollback}
-use Rattle.kt_node.specs.NodeMessages.{arriving, taking_held, refusing, unable}
-use Rattle.kt_node.specs.NodeJoining.{next_name, beginning, joining_checkpoint, joining_rollback, replying, unwilling, asking}
-use Rattle.kt_node.specs.NodeClosing.{ending, settling}
-use Rattle.kt_node.specs.NodeSteps.{is_one, starting, told_to_begin, asked, awaits, heeds, counting, taking, is_step, node_after}
+use Rattle.kt_manager.specs.declared.parcels.NodeParcel.{NodeParcel}
+use Rattle.kt_manager.specs.declared.parcels.NodeParcel.TheVariants.{App, Ask, Reply, Decide}
+use Rattle.kt_manager.specs.Nodes.{NodeState, Doing, nothing, is_in_rollback}
+use Rattle.kt_node.specs.Inputs.{Input, Send, Begin, Fail, Held, Comes}
+use Rattle.kt_manager.specs.NodeMessages.{arriving, taking_held, refusing, unable}
+use Rattle.kt_manager.specs.NodeJoining.{beginning, joining_checkpoint, joining_rollback, replying, unwilling}
+use Rattle.kt_node.specs.NodeSteps.{next_name, asking, awaits, heeds, taking, is_step, node_after}
+use Rattle.kt_manager.specs.NodeClosing.{ending, settling}
+use Rattle.kt_manager.specs.NodeSteps.{is_one, starting, told_to_begin, asked, counting}
 use Rattle.kt_node.specs.NodeLooks.{where_able, asks_to_save, would_save}
 
 -- whether the object's state is kept among some acts
@@ -100,13 +102,13 @@ taking_held_keeps y q (Reply k w ∷ rest) = refl
 taking_held_keeps y q (Decide k c ∷ rest) = refl
 
 module _ (y : NodeState) where
-  begin_keeps : (o : Option InstName) (roll able : Bool) → keeps (told_to_begin o y roll able).acts ≡ (((is_none o && y.up) && not roll) && able)
+  begin_keeps : (o : Option InstName) (roll able : Bool) → keeps (told_to_begin (next_name y) o y roll able).acts ≡ (((is_none o && y.up) && not roll) && able)
   begin_keeps (Some name) roll able = refl
-  begin_keeps None true able = settling_keeps (next_name y) (joining_rollback (next_name y) None no_note (beginning y true)) ∙ no_one true y.up able
+  begin_keeps None true able = settling_keeps (next_name y) (joining_rollback (next_name y) None no_note (beginning (next_name y) y true)) ∙ no_one true y.up able
   begin_keeps None false able = at_tests able y.up
     where
-      at_tests : (a u : Bool) → keeps (if a && u then starting y false else refusing y verb.Checkpoint (unable u)).acts ≡ (((true && u) && true) && a)
-      at_tests true true = settling_keeps (next_name y) (joining_checkpoint (next_name y) None (beginning y false))
+      at_tests : (a u : Bool) → keeps (if a && u then starting (next_name y) y false else refusing y verb.Checkpoint (unable u)).acts ≡ (((true && u) && true) && a)
+      at_tests true true = settling_keeps (next_name y) (joining_checkpoint (next_name y) None (beginning (next_name y) y false))
       at_tests true false = refl
       at_tests false true = refl
       at_tests false false = refl
@@ -125,12 +127,12 @@ module _ (y : NodeState) where
       at_tests false a false = refl
 
   -- whether it can be saved
-  begin_counts : (o : Option InstName) (roll a b : Bool) → ((is_none o && y.up) && not roll) ≡ false → told_to_begin o y roll a ≡ told_to_begin o y roll b
+  begin_counts : (o : Option InstName) (roll a b : Bool) → ((is_none o && y.up) && not roll) ≡ false → told_to_begin (next_name y) o y roll a ≡ told_to_begin (next_name y) o y roll b
   begin_counts (Some name) roll a b e = refl
   begin_counts None true a b e = refl
   begin_counts None false a b e = at_test y.up a b e
     where
-      at_test : (u a b : Bool) → ((true && u) && true) ≡ false → (if a && u then starting y false else refusing y verb.Checkpoint (unable u)) ≡ (if b && u then starting y false else refusing y verb.Checkpoint (unable u))
+      at_test : (u a b : Bool) → ((true && u) && true) ≡ false → (if a && u then starting (next_name y) y false else refusing y verb.Checkpoint (unable u)) ≡ (if b && u then starting (next_name y) y false else refusing y verb.Checkpoint (unable u))
       at_test true a b e = absurd (cc (e))
       at_test false true true e = refl
       at_test false true false e = refl

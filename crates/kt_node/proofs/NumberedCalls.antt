@@ -8,9 +8,10 @@ use Rattle.kt_protocol.proofs.Updates.{at_one_here, at_one_other}
 use Rattle.kt_machine.specs.Acts.{stepper}
 use Rattle.kt_node.specs.declared.node.Output.{Output}
 use Rattle.kt_node.specs.declared.node.Taken.TheVariants.{Step, Again}
-use Rattle.kt_node.specs.declared.parcels.NodeParcel.{NodeParcel}
-use Rattle.kt_node.specs.Nodes.{NodeState, Input, is_in_rollback}
-use Rattle.kt_node.specs.Nodes as input
+use Rattle.kt_manager.specs.declared.parcels.NodeParcel.{NodeParcel}
+use Rattle.kt_manager.specs.Nodes.{NodeState, is_in_rollback}
+use Rattle.kt_node.specs.Inputs.{Input}
+use Rattle.kt_node.specs.Inputs as input
 use Rattle.kt_node.specs.NodeSteps.{is_step, node_after}
 use Rattle.kt_node.specs.Nets.{has_some}
 use Rattle.kt_node.specs.declared.faults.ManagerFault.{ManagerFault}
@@ -111,7 +112,7 @@ both_so true b e f = f
 both_so false b e f = absurd (cc e)
 
 pub comes_call : (w : NumberedNet) (p q : ℕ) (able : Bool) (number : ℕ) (e : Envelope) (old new : NodeLinks) (out : Output) → ShowsNumbered old w p → with_number number (w.put q p) ≡ e ∷ []
-    → fault_at (w.nodes p) (input.Comes q able e.parcel) ≡ None → TakesNext old new q number (Step out) → IsStep old new e.clock (w.nodes p) (input.Comes q able e.parcel) out
+    → fault_at (w.nodes p) (input.Comes q able e.parcel) ≡ None → TakesNext old new q number (Step) → IsStep old new e.clock (w.nodes p) (input.Comes q able e.parcel) out
     → ShowsNumbered new (numbered_step w (Comes p q able number)) p
 comes_call w p q able number e old new out h there free t s =
     let y = w.nodes p in

@@ -9,11 +9,9 @@ use Rattle.std.proofs.lemmas.List.{append-nil, map-append, take-append-drop, tak
 use Rattle.kt_protocol.proofs.Updates.{is_same, is_other}
 use Rattle.kt_spacetime.specs.declared.named_rows.NamedEvent.{NamedEvent}
 use Rattle.kt_node.specs.Clocks.{Envelope, envelope, clocked_row}
-use Rattle.kt_node.specs.declared.parcels.NodeParcel.{NodeParcel}
+use Rattle.kt_manager.specs.declared.parcels.NodeParcel.{NodeParcel}
 use Rattle.kt_node.specs.declared.cluster.OnWay.{OnWay}
 use Rattle.kt_node.specs.Clusters.{link, IsFront}
-use Rattle.kt_node.specs.Effects.{rows_told}
-use Rattle.kt_node.proofs.Reaching.{rows_told-append}
 
 with_front : (b : Bool) (e : Envelope) (whole front rest : List Envelope) → whole ≡ front ++ rest → (if b then e ∷ whole else whole) ≡ (if b then e ∷ front else front) ++ rest
 with_front true e whole front rest h = ap (λ (l : List Envelope). e ∷ l) h
@@ -75,18 +73,11 @@ one_of o x l e s = ap option_to_list (sym s) ∙ e
 pub none_of : (o : Option NodeParcel) (l : List NodeParcel) → option_to_list o ≡ l → o ≡ None → [] ≡ l
 none_of o l e s = ap option_to_list (sym s) ∙ e
 
--- a row more that is told, or none
-pub told_one : (p clock : ℕ) (rows : List (Option NamedEvent)) (i : ℕ) (item : Option NamedEvent) (event : NamedEvent) → i < length rows → item ≡ slice_index_or rows i item → item ≡ Some event
-    → map (clocked_row p clock) (rows_told (take (i + 1) rows)) ≡ map (clocked_row p clock) (rows_told (take i rows)) ++ clocked_row p clock event ∷ []
-told_one p clock rows i item event b e s =
-    ap (λ (l : List (Option NamedEvent)). map (clocked_row p clock) (rows_told l)) (take_more rows i item b ∙ ap (λ (x : Option NamedEvent). take i rows ++ x ∷ []) (sym e ∙ s))
-    ∙ (ap (map (clocked_row p clock)) (rows_told-append (take i rows) (Some event ∷ [])) ∙ map-append (clocked_row p clock) (rows_told (take i rows)) (event ∷ []))
-
-pub told_none : (p clock : ℕ) (rows : List (Option NamedEvent)) (i : ℕ) (item : Option NamedEvent) → i < length rows → item ≡ slice_index_or rows i item → item ≡ None
-    → map (clocked_row p clock) (rows_told (take (i + 1) rows)) ≡ map (clocked_row p clock) (rows_told (take i rows))
-told_none p clock rows i item b e s =
-    ap (λ (l : List (Option NamedEvent)). map (clocked_row p clock) (rows_told l)) (take_more rows i item b ∙ ap (λ (x : Option NamedEvent). take i rows ++ x ∷ []) (sym e ∙ s))
-    ∙ ap (map (clocked_row p clock)) (rows_told-append (take i rows) (None ∷ []) ∙ append-nil (rows_told (take i rows)))
+-- a row more that is told
+pub told_one : (p clock : ℕ) (rows : List NamedEvent) (i : ℕ) (event : NamedEvent) → i < length rows → event ≡ slice_index_or rows i event
+    → map (clocked_row p clock) (take (i + 1) rows) ≡ map (clocked_row p clock) (take i rows) ++ clocked_row p clock event ∷ []
+told_one p clock rows i event b e =
+    ap (map (clocked_row p clock)) (take_more rows i event b ∙ ap (λ (x : NamedEvent). take i rows ++ x ∷ []) (sym e)) ∙ map-append (clocked_row p clock) (take i rows) (event ∷ [])
 
 -- one parcel more of the list is none of a link
 pub passed : (xs : List OnWay) (p q i : ℕ) (x : OnWay) → i < length xs → x ≡ slice_index_or xs i x → (p == x.from && q == x.to) ≡ false → link (take i xs) p q ≡ [] → link (take (i + 1) xs) p q ≡ []

@@ -8,11 +8,13 @@ use Rattle.kt_protocol.proofs.Updates.{is_same, is_other, at_one_here, at_one_ot
 use Rattle.kt_protocol.specs.States.{ProtocolStep, Send, Begin, Fail, Take, State}
 use Rattle.kt_machine.proofs.OnePiece.{set_same}
 use Rattle.kt_spacetime.specs.declared.names.InstName.{InstName}
-use Rattle.kt_node.specs.declared.parcels.NodeParcel.{NodeParcel}
-use Rattle.kt_node.specs.declared.parcels.NodeParcel.TheVariants.{App, Ask, Reply, Decide}
-use Rattle.kt_node.specs.Nodes.{NodeState, Input, Doing, is_in_rollback}
-use Rattle.kt_node.specs.Nodes as input
-use Rattle.kt_node.specs.NodeSteps.{awaits, counting, node_after}
+use Rattle.kt_manager.specs.declared.parcels.NodeParcel.{NodeParcel}
+use Rattle.kt_manager.specs.declared.parcels.NodeParcel.TheVariants.{App, Ask, Reply, Decide}
+use Rattle.kt_manager.specs.Nodes.{NodeState, Doing, is_in_rollback}
+use Rattle.kt_node.specs.Inputs.{Input}
+use Rattle.kt_node.specs.Inputs as input
+use Rattle.kt_manager.specs.NodeSteps.{counting}
+use Rattle.kt_node.specs.NodeSteps.{awaits, node_after}
 use Rattle.kt_node.specs.Nets.{Net, with_doing, with_rest, has_some, net_front, net_step, net_run, opening_net}
 use Rattle.kt_node.proofs.Awaiting.{Awaits, Since}
 use Rattle.kt_node.proofs.Owing.{last_ask, Follows, last_append, follows_append, IsLast, Owes, owes, heard}

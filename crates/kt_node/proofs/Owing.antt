@@ -12,13 +12,15 @@ use Rattle.kt_machine.specs.SeenJoining.{no_note}
 use Rattle.kt_spacetime.specs.declared.names.InstName.{InstName}
 use Rattle.kt_spacetime.specs.declared.named_rows.NamedCause.TheVariants.{Down}
 use Rattle.kt_spacetime.specs.declared.named_rows.NamedEvent.TheVariants.{Dropped, Decided}
-use Rattle.kt_node.specs.declared.parcels.NodeParcel.{NodeParcel}
-use Rattle.kt_node.specs.declared.parcels.NodeParcel.TheVariants.{App, Ask, Reply, Decide}
-use Rattle.kt_node.specs.Nodes.{NodeState, Input, Send, Begin, Fail, Held, Comes, Doing, nothing, is_in_rollback}
-use Rattle.kt_node.specs.NodeMessages.{sending, receiving, arriving, holding, taking_held, failing, refusing}
-use Rattle.kt_node.specs.NodeJoining.{next_name, beginning, joining_checkpoint, joining_rollback, noting, asking}
-use Rattle.kt_node.specs.NodeClosing.{after_checkpoint, after_rollback, closing, ending, settling}
-use Rattle.kt_node.specs.NodeSteps.{is_one, is_in, told_to_begin, asked, awaits, heeds, counting, is_step, node_after}
+use Rattle.kt_manager.specs.declared.parcels.NodeParcel.{NodeParcel}
+use Rattle.kt_manager.specs.declared.parcels.NodeParcel.TheVariants.{App, Ask, Reply, Decide}
+use Rattle.kt_manager.specs.Nodes.{NodeState, Doing, nothing, is_in_rollback}
+use Rattle.kt_node.specs.Inputs.{Input, Send, Begin, Fail, Held, Comes}
+use Rattle.kt_manager.specs.NodeMessages.{sending, receiving, arriving, holding, taking_held, failing, refusing}
+use Rattle.kt_manager.specs.NodeJoining.{beginning, joining_checkpoint, joining_rollback, noting}
+use Rattle.kt_node.specs.NodeSteps.{next_name, asking, awaits, heeds, is_step, node_after}
+use Rattle.kt_manager.specs.NodeClosing.{after_checkpoint, after_rollback, closing, ending, settling}
+use Rattle.kt_manager.specs.NodeSteps.{is_one, is_in, told_to_begin, asked, counting}
 
 -- what is asked last, once some parcels have come
 abbrev pub last_ask : Option InstName → List NodeParcel → Option InstName
@@ -189,10 +191,10 @@ module _ (o : Option InstName) (p q : ℕ) where
     replies : (z : NodeState) (u : ℕ) (k : InstName) (b : Bool) (d : Doing) → z.inst ≡ y.inst → z.part.asked p ≡ y.part.asked p → z.asks ≡ y.asks → z.answered q ≡ y.answered q → d.puts p ≡ (if p == u then Reply k b ∷ [] else []) → d.state ≡ z → Owes o p q y d
     replies z u k b d inst asked asks answered puts state = more o p q y (nothing z) d (p == u) (Reply k b) (λ n. (refl, tt)) puts state (still (nothing z) refl inst asked asks answered)
 
-    begins : (n : Option InstName) (roll able : Bool) → Owes o p q y (told_to_begin n y roll able)
+    begins : (n : Option InstName) (roll able : Bool) → Owes o p q y (told_to_begin (next_name y) n y roll able)
     begins (Some name) roll able = still _ refl refl refl refl refl
-    begins None true able = joins_rollback o p q y (next_name y) None no_note (beginning y true) (still (beginning y true) refl refl refl refl refl)
-    begins None false able = either o p q y (able && y.up) _ _ (joins_checkpoint o p q y (next_name y) None (beginning y false) (still (beginning y false) refl refl refl refl refl)) (still _ refl refl refl refl refl)
+    begins None true able = joins_rollback o p q y (next_name y) None no_note (beginning (next_name y) y true) (still (beginning (next_name y) y true) refl refl refl refl refl)
+    begins None false able = either o p q y (able && y.up) _ _ (joins_checkpoint o p q y (next_name y) None (beginning (next_name y) y false) (still (beginning (next_name y) y false) refl refl refl refl refl)) (still _ refl refl refl refl refl)
 
     asks : (n : Option InstName) (u : ℕ) (able : Bool) (k : InstName) (roll : Bool) (label : ℕ) → Owes o p q y (asked n y u able k roll label)
     asks (Some name) u able k true label = either o p q y (is_one name k) _ _ (replies (noting y true u label) u k true _ refl refl refl refl refl refl) (replies y u k false _ refl refl refl refl refl refl)

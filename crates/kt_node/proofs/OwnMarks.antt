@@ -2,24 +2,27 @@
 use Rattle.std.specs.Prelude.{◌==◌, ◌&&◌, if◌then◌else◌}
 use Rattle.std.proofs.Common.{◌≡◌, ◌∙◌, ◌≤◌, ℕ, ℤ, Bool, true, false, not, Option, Some, None, List, [], ◌∷◌, ◌++◌, length, refl, sym, ap, subst, arith, length-append}
 use Rattle.std.proofs.lemmas.List.{length-map}
-use Rattle.kt_fifo.specs.Channels.{channel}
+use Rattle.kt_manager.specs.Inboxes.{kept_of}
 use Rattle.kt_meaning.specs.Past.{at_one, is_rollback_kind}
 use Rattle.kt_machine.specs.CallTests.{must_take, must_roll}
 use Rattle.kt_machine.specs.Seen.{SeenPart}
 use Rattle.kt_machine.specs.SeenJoining.{no_note, part_after_ask}
 use Rattle.kt_process.specs.Shown.{part_shown}
 use Rattle.kt_spacetime.specs.declared.names.InstName.{InstName}
-use Rattle.kt_node.specs.declared.parcels.NodeParcel.{NodeParcel}
-use Rattle.kt_node.specs.declared.parcels.NodeParcel.TheVariants.{App, Ask, Reply, Decide}
-use Rattle.kt_node.specs.Nodes.{NodeLists, NodeState, Input, Send, Begin, Fail, Held, Comes, Doing, nothing, is_in_rollback}
-use Rattle.kt_node.specs.NodeMessages.{arriving, taking_held}
-use Rattle.kt_node.specs.NodeJoining.{next_name, beginning, joining_checkpoint, joining_rollback, asking}
-use Rattle.kt_node.specs.NodeClosing.{after_checkpoint, after_rollback, ending, settling}
-use Rattle.kt_node.specs.NodeSteps.{is_one, told_to_begin, asked, counting, taking, is_step, node_after}
+use Rattle.kt_manager.specs.declared.parcels.NodeParcel.{NodeParcel}
+use Rattle.kt_manager.specs.declared.parcels.NodeParcel.TheVariants.{App, Ask, Reply, Decide}
+use Rattle.kt_manager.specs.Nodes.{NodeLists, NodeState, Doing, nothing, is_in_rollback}
+use Rattle.kt_node.specs.Inputs.{Input, Send, Begin, Fail, Held, Comes}
+use Rattle.kt_manager.specs.NodeMessages.{arriving, taking_held}
+use Rattle.kt_manager.specs.NodeJoining.{beginning, joining_checkpoint, joining_rollback}
+use Rattle.kt_node.specs.NodeSteps.{next_name, asking, taking, is_step, node_after}
+use Rattle.kt_manager.specs.NodeClosing.{after_checkpoint, after_rollback, ending, settling}
+use Rattle.kt_manager.specs.NodeSteps.{is_one, told_to_begin, asked, counting}
 use Rattle.kt_node.specs.Nets.{opening_net}
-use Rattle.kt_node.specs.Managers.{ManagerState, ShowsNode, no_name, number_in}
-use Rattle.kt_node.specs.Erasing.{erased_parcel}
-use Rattle.kt_node.specs.OwnParts.{HasOwnPart, HasOwnMarks}
+use Rattle.kt_node.specs.Managers.{ManagerState, ShowsNode}
+use Rattle.kt_manager.specs.Managers.{number_in, as_parcel}
+use Rattle.kt_manager.specs.OwnParts.{HasOwnMarks}
+use Rattle.kt_node.specs.OwnParts.{HasOwnPart}
 
 pub marks_opening : (n first p : ℕ) → HasOwnMarks ((opening_net n first).nodes p)
 marks_opening n first p = λ q. omega arith
@@ -64,10 +67,10 @@ held_marks y q (Ask k kind label ∷ rest) h = h
 held_marks y q (Reply k w ∷ rest) h = h
 held_marks y q (Decide k c ∷ rest) h = h
 
-begin_marks : (o : Option InstName) (y : NodeState) (roll able : Bool) → HasOwnMarks y → HasOwnMarks (told_to_begin o y roll able).state
+begin_marks : (o : Option InstName) (y : NodeState) (roll able : Bool) → HasOwnMarks y → HasOwnMarks (told_to_begin (next_name y) o y roll able).state
 begin_marks (Some name) y roll able h = h
-begin_marks None y true able h = rolling_marks (next_name y) None no_note (beginning y true)
-begin_marks None y false able h = one_of (able && y.up) _ _ (saving_marks (next_name y) None (beginning y false)) h
+begin_marks None y true able h = rolling_marks (next_name y) None no_note (beginning (next_name y) y true)
+begin_marks None y false able h = one_of (able && y.up) _ _ (saving_marks (next_name y) None (beginning (next_name y) y false)) h
 
 ask_marks : (o : Option InstName) (y : NodeState) (q : ℕ) (able : Bool) (k : InstName) (roll : Bool) (label : ℕ) → HasOwnMarks y → HasOwnMarks (asked o y q able k roll label).state
 ask_marks (Some name) y q able k roll label h =
@@ -94,6 +97,6 @@ own_shown w y s h = record {
   named = s.process.inst ∙ (λ i. number_in (sym s.inst i));
   marks = λ q b.
       let marks : (part_shown w.process.side).marks q ≡ y.part.marks q = ap (λ (p : SeenPart). p.marks q) s.process.part in
-      let kept : length (channel w.kept q w.me) ≡ length (y.kept q) = sym (length-map (channel w.kept q w.me) (erased_parcel no_name)) ∙ ap (λ (l : NodeLists). length (l q)) s.holds.kept in
+      let kept : length (kept_of w.inbox q) ≡ length (y.kept q) = sym (length-map (kept_of w.inbox q) as_parcel) ∙ ap (λ (l : NodeLists). length (l q)) s.holds.kept in
       omega (arith, marks, kept, h q);
 }

@@ -8,9 +8,9 @@ use Rattle.kt_spacetime.specs.declared.named_rows.NamedEvent.{NamedEvent}
 use Rattle.kt_spacetime.specs.declared.named_rows.NamedEvent.TheVariants.{Sent, Received, Dropped, Began, Took, Ready, Unwilling, Decided, Closed, Failed, Refused}
 use Rattle.kt_spacetime.specs.declared.named_rows.NamedRow.{NamedRow}
 use Rattle.kt_meaning.specs.Names.{row_of}
-use Rattle.kt_node.specs.declared.parcels.NodeParcel.{NodeParcel}
-use Rattle.kt_node.specs.Nodes.{NodeState, Doing, is_in_rollback}
-use Rattle.kt_node.specs.Nodes as input
+use Rattle.kt_manager.specs.declared.parcels.NodeParcel.{NodeParcel}
+use Rattle.kt_manager.specs.Nodes.{NodeState, Doing, is_in_rollback}
+use Rattle.kt_node.specs.Inputs as input
 use Rattle.kt_node.specs.NodeSteps.{node_after}
 use Rattle.kt_node.specs.Nets.{Net, with_doing, with_rest, has_some, net_front, net_step, net_run, front_acts, net_acts, opening_from, opening_net}
 use Rattle.kt_node.specs.Erasing.{relabelled, rows_relabelled, rows_from_each, rows_from}

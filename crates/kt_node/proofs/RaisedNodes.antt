@@ -16,13 +16,15 @@ use Rattle.kt_spacetime.specs.declared.names.InstName.{InstName}
 use Rattle.kt_spacetime.specs.declared.named_rows.NamedCause.{NamedCause}
 use Rattle.kt_spacetime.specs.declared.named_rows.NamedCause.TheVariants.{Busy, Down}
 use Rattle.kt_spacetime.specs.declared.named_rows.NamedEvent.TheVariants.{Sent, Received, Took, Ready, Unwilling, Decided, Closed}
-use Rattle.kt_node.specs.declared.parcels.NodeParcel.{NodeParcel}
-use Rattle.kt_node.specs.declared.parcels.NodeParcel.TheVariants.{App, Ask, Reply, Decide}
-use Rattle.kt_node.specs.Nodes.{NodeLists, NodeState, Input, Send, Begin, Fail, Held, Comes, Doing, nothing, putting, with_one, is_in_rollback}
-use Rattle.kt_node.specs.NodeMessages.{sending, receiving, arriving, holding, taking_held, failing, refusing, unable}
-use Rattle.kt_node.specs.NodeJoining.{next_name, beginning, joining_checkpoint, joining_rollback, replying, unwilling, asking, noting}
-use Rattle.kt_node.specs.NodeClosing.{is_within, within, after_checkpoint, after_rollback, closing, ending, settling}
-use Rattle.kt_node.specs.NodeSteps.{is_one, starting, told_to_begin, asked, awaits, heeds, counting, taking, is_step, node_after}
+use Rattle.kt_manager.specs.declared.parcels.NodeParcel.{NodeParcel}
+use Rattle.kt_manager.specs.declared.parcels.NodeParcel.TheVariants.{App, Ask, Reply, Decide}
+use Rattle.kt_manager.specs.Nodes.{NodeLists, NodeState, Doing, nothing, putting, with_one, is_in_rollback}
+use Rattle.kt_node.specs.Inputs.{Input, Send, Begin, Fail, Held, Comes}
+use Rattle.kt_manager.specs.NodeMessages.{sending, receiving, arriving, holding, taking_held, failing, refusing, unable}
+use Rattle.kt_manager.specs.NodeJoining.{beginning, joining_checkpoint, joining_rollback, replying, unwilling, noting}
+use Rattle.kt_node.specs.NodeSteps.{next_name, asking, awaits, heeds, taking, is_step, node_after}
+use Rattle.kt_manager.specs.NodeClosing.{is_within, within, after_checkpoint, after_rollback, closing, ending, settling}
+use Rattle.kt_manager.specs.NodeSteps.{is_one, starting, told_to_begin, asked, counting}
 use Rattle.kt_node.specs.Erasing.{relabelled}
 use Rattle.kt_node.specs.FirstLabels.{raised, raised_call, raised_parcel, raised_part, raised_node}
 use Rattle.kt_node.proofs.RaisedCalls.{raised_some, le_raised, takes_raised, rolls_raised, asked_in_checkpoint_raised, checkpoint_label_raised, asked_in_rollback_raised, rollback_label_raised}
@@ -199,11 +201,11 @@ module _ (first : ℕ → ℕ) (p : ℕ) where
       asks : is_asked_in_rollback (map (raised_call first p) d.state.calls) ≡ is_asked_in_rollback d.state.calls
       asks = fun_ext (asked_in_rollback_raised first p d.state.calls)
 
-  starts : (y : NodeState) (roll : Bool) → starting (node y) roll ≡ raised_doing (starting y roll)
-  starts y false = ap (settling (next_name y)) (joins_checkpoint (next_name y) None (beginning y false)) ∙ settles (next_name y) (joining_checkpoint (next_name y) None (beginning y false))
-  starts y true = ap (settling (next_name y)) (joins_rollback (next_name y) None no_note (beginning y true)) ∙ settles (next_name y) (joining_rollback (next_name y) None no_note (beginning y true))
+  starts : (y : NodeState) (roll : Bool) → starting (next_name (node y)) (node y) roll ≡ raised_doing (starting (next_name y) y roll)
+  starts y false = ap (settling (next_name y)) (joins_checkpoint (next_name y) None (beginning (next_name y) y false)) ∙ settles (next_name y) (joining_checkpoint (next_name y) None (beginning (next_name y) y false))
+  starts y true = ap (settling (next_name y)) (joins_rollback (next_name y) None no_note (beginning (next_name y) y true)) ∙ settles (next_name y) (joining_rollback (next_name y) None no_note (beginning (next_name y) y true))
 
-  begins : (o : Option InstName) (y : NodeState) (roll able : Bool) → told_to_begin o (node y) roll able ≡ raised_doing (told_to_begin o y roll able)
+  begins : (o : Option InstName) (y : NodeState) (roll able : Bool) → told_to_begin (next_name y) o (node y) roll able ≡ raised_doing (told_to_begin (next_name y) o y roll able)
   begins (Some name) y roll able = refl
   begins None y true able = starts y true
   begins None y false able = branch (able && y.up) _ _ _ _ (starts y false) refl

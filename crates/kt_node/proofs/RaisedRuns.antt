@@ -7,9 +7,10 @@ use Rattle.kt_protocol.specs.States.{ProtocolStep, opening}
 use Rattle.kt_protocol.specs.LateSteps.{late_run}
 use Rattle.kt_spacetime.specs.declared.names.InstName.{InstName}
 use Rattle.kt_meaning.specs.Names.{numbered}
-use Rattle.kt_node.specs.declared.parcels.NodeParcel.{NodeParcel}
-use Rattle.kt_node.specs.declared.parcels.NodeParcel.TheVariants.{App, Ask, Reply, Decide}
-use Rattle.kt_node.specs.NodeSteps.{is_in, is_begun, heeds}
+use Rattle.kt_manager.specs.declared.parcels.NodeParcel.{NodeParcel}
+use Rattle.kt_manager.specs.declared.parcels.NodeParcel.TheVariants.{App, Ask, Reply, Decide}
+use Rattle.kt_manager.specs.NodeSteps.{is_in}
+use Rattle.kt_node.specs.NodeSteps.{is_begun, heeds}
 use Rattle.kt_node.specs.Nets.{Net, net_step, net_run, opening_from, opening_net}
 use Rattle.kt_node.specs.Erasing.{rows_from_each}
 use Rattle.kt_node.specs.FirstLabels.{raised, raised_call, raised_parcel}

@@ -1,5 +1,5 @@
 -- How far messages go once one more call is made.
-use Rattle.std.specs.Prelude.{slice_index, slice_index_or, slice_set, Option, Some, None}
+use Rattle.std.specs.Prelude.{slice_index, slice_index_or, slice_set}
 use Rattle.std.specs.List.{flat_map}
 use Rattle.std.proofs.Common.{◌≡◌, ◌≢◌, ◌∙◌, ℕ, ◌+◌, ◌<◌, max, take, List, [], ◌∷◌, ◌++◌, length, refl, sym, ap, subst, arith, append_assoc, inl, inr}
 use Rattle.std.proofs.lemmas.Bool.{cases_eq}
@@ -9,7 +9,7 @@ use Rattle.kt_meaning.specs.Past.{at_one}
 use Rattle.kt_plan.specs.declared.steps.Act.{Act as AnsweredAct}
 use Rattle.kt_protocol.proofs.Updates.{at_one_here, at_one_other, is_same, is_other}
 use Rattle.kt_spacetime.specs.declared.named_rows.NamedEvent.{NamedEvent}
-use Rattle.kt_system.specs.ShownActs.{act_shown, acts_shown}
+use Rattle.kt_manager.specs.ShownActs.{act_shown, acts_shown}
 use Rattle.kt_tables.specs.Calls.{Call, sent, received, on_tentative, on_commit, on_abort, on_rollback, receiveds}
 use Rattle.kt_tables.specs.Labels.{greatest}
 use Rattle.kt_tables.proofs.CallParts.{receiveds-append}
@@ -17,7 +17,6 @@ use Rattle.kt_tables.proofs.LabelLists.{greatest-append}
 use Rattle.kt_node.specs.NodeHistories.{Histories, no_history, histories_after, histories, sent_labels, call_of_row, call_of_act}
 use Rattle.kt_node.specs.declared.reach.Reach.{Reach}
 use Rattle.kt_node.specs.declared.reach.Reaches.{Reaches}
-use Rattle.kt_node.specs.Effects.{rows_told}
 use Rattle.kt_node.specs.Reaches.{IsReach, HasReaches}
 use Rattle.kt_node.proofs.Counts.{set_each}
 
@@ -104,42 +103,25 @@ has_same r calls h = subst (λ (x : List Call). HasReaches r x) (sym (append-nil
 pub has_both : (r : Reaches) (calls front rest : List Call) → HasReaches r ((calls ++ front) ++ rest) → HasReaches r (calls ++ (front ++ rest))
 has_both r calls front rest h = subst (λ (x : List Call). HasReaches r x) (append_assoc calls front rest) h
 
-pub rows_told-append : (front rest : List (Option NamedEvent)) → rows_told (front ++ rest) ≡ rows_told front ++ rows_told rest
-rows_told-append [] rest = refl
-rows_told-append (None ∷ front) rest = rows_told-append front rest
-rows_told-append (Some row ∷ front) rest = ap (λ (x : List NamedEvent). row ∷ x) (rows_told-append front rest)
-
 acts_shown-append : (front rest : List AnsweredAct) → acts_shown (front ++ rest) ≡ acts_shown front ++ acts_shown rest
 acts_shown-append [] rest = refl
 acts_shown-append (act ∷ front) rest = ap (λ x. act_shown act ++ x) (acts_shown-append front rest) ∙ sym (append_assoc (act_shown act) (acts_shown front) (acts_shown rest))
 
--- the calls that one row more tells, and one act more
-pub row_more : (front : List (Option NamedEvent)) (row : Option NamedEvent) → flat_map call_of_row (rows_told (front ++ row ∷ [])) ≡ flat_map call_of_row (rows_told front) ++ flat_map call_of_row (rows_told (row ∷ []))
-row_more front row = ap (flat_map call_of_row) (rows_told-append front (row ∷ [])) ∙ flat_map-append call_of_row (rows_told front) (rows_told (row ∷ []))
-
+-- the calls that one act more tells
 pub act_more : (front : List AnsweredAct) (act : AnsweredAct) → flat_map call_of_act (acts_shown (front ++ act ∷ [])) ≡ flat_map call_of_act (acts_shown front) ++ flat_map call_of_act (act_shown act)
 act_more front act = ap (flat_map call_of_act) (acts_shown-append front (act ∷ []) ∙ ap (λ x. acts_shown front ++ x) (append-nil (act_shown act))) ∙ flat_map-append call_of_act (acts_shown front) (act_shown act)
 
 -- along a list of rows, and of acts
-pub row_next : (rows : List (Option NamedEvent)) (i : ℕ) (row : Option NamedEvent) → i < length rows → row ≡ slice_index_or rows i row
-    → flat_map call_of_row (rows_told (take (i + 1) rows)) ≡ flat_map call_of_row (rows_told (take i rows)) ++ flat_map call_of_row (rows_told (row ∷ []))
-row_next rows i row b e = ap (λ (l : List (Option NamedEvent)). flat_map call_of_row (rows_told l)) (take_more rows i row b ∙ ap (λ (x : Option NamedEvent). take i rows ++ x ∷ []) (sym e)) ∙ row_more (take i rows) row
+row_next : (rows : List NamedEvent) (i : ℕ) (row : NamedEvent) → i < length rows → row ≡ slice_index_or rows i row
+    → flat_map call_of_row (take (i + 1) rows) ≡ flat_map call_of_row (take i rows) ++ call_of_row row
+row_next rows i row b e = ap (flat_map call_of_row) (take_more rows i row b ∙ ap (λ (x : NamedEvent). take i rows ++ x ∷ []) (sym e))
+    ∙ (flat_map-append call_of_row (take i rows) (row ∷ []) ∙ ap (λ (l : List Call). flat_map call_of_row (take i rows) ++ l) (append-nil (call_of_row row)))
 
 pub act_next : (acts : List AnsweredAct) (i : ℕ) (act : AnsweredAct) → i < length acts → act ≡ slice_index_or acts i act
     → flat_map call_of_act (acts_shown (take (i + 1) acts)) ≡ flat_map call_of_act (acts_shown (take i acts)) ++ flat_map call_of_act (act_shown act)
 act_next acts i act b e = ap (λ (l : List AnsweredAct). flat_map call_of_act (acts_shown l)) (take_more acts i act b ∙ ap (λ (x : AnsweredAct). take i acts ++ x ∷ []) (sym e)) ∙ act_more (take i acts) act
 
--- one row more is told, or none
-pub tells_row : (r : Reaches) (calls : List Call) (rows : List (Option NamedEvent)) (i : ℕ) (item : Option NamedEvent) (row : NamedEvent) → i < length rows → item ≡ slice_index_or rows i item → item ≡ Some row
-    → HasReaches r ((calls ++ flat_map call_of_row (rows_told (take i rows))) ++ call_of_row row) → HasReaches r (calls ++ flat_map call_of_row (rows_told (take (i + 1) rows)))
-tells_row r calls rows i item row b e s h =
-    let front = flat_map call_of_row (rows_told (take i rows)) in
-    let one : flat_map call_of_row (rows_told (item ∷ [])) ≡ call_of_row row = ap (λ (o : Option NamedEvent). flat_map call_of_row (rows_told (o ∷ []))) s ∙ append-nil (call_of_row row) in
-    subst (λ (l : List Call). HasReaches r (calls ++ l)) (sym (row_next rows i item b e ∙ ap (λ (l : List Call). front ++ l) one)) (has_both r calls front (call_of_row row) h)
-
-pub tells_none : (r : Reaches) (calls : List Call) (rows : List (Option NamedEvent)) (i : ℕ) (item : Option NamedEvent) → i < length rows → item ≡ slice_index_or rows i item → item ≡ None
-    → HasReaches r (calls ++ flat_map call_of_row (rows_told (take i rows))) → HasReaches r (calls ++ flat_map call_of_row (rows_told (take (i + 1) rows)))
-tells_none r calls rows i item b e s h =
-    let front = flat_map call_of_row (rows_told (take i rows)) in
-    let one : flat_map call_of_row (rows_told (item ∷ [])) ≡ [] = ap (λ (o : Option NamedEvent). flat_map call_of_row (rows_told (o ∷ []))) s in
-    subst (λ (l : List Call). HasReaches r (calls ++ l)) (sym (row_next rows i item b e ∙ (ap (λ (l : List Call). front ++ l) one ∙ append-nil front))) h
+-- one row more is told
+pub tells_row : (r : Reaches) (calls : List Call) (rows : List NamedEvent) (i : ℕ) (row : NamedEvent) → i < length rows → row ≡ slice_index_or rows i row
+    → HasReaches r ((calls ++ flat_map call_of_row (take i rows)) ++ call_of_row row) → HasReaches r (calls ++ flat_map call_of_row (take (i + 1) rows))
+tells_row r calls rows i row b e h = subst (λ (l : List Call). HasReaches r (calls ++ l)) (sym (row_next rows i row b e)) (has_both r calls (flat_map call_of_row (take i rows)) (call_of_row row) h)

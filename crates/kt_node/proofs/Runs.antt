@@ -11,7 +11,7 @@ use Rattle.kt_machine.proofs.RunFacts.{speaks}
 use Rattle.kt_machine.proofs.Runs.{seen_next}
 use Rattle.kt_spacetime.specs.declared.names.InstName.{InstName}
 use Rattle.kt_meaning.specs.Names.{numbered}
-use Rattle.kt_node.specs.Nodes.{NodeState}
+use Rattle.kt_manager.specs.Nodes.{NodeState}
 use Rattle.kt_node.specs.Nets.{Net, net_step, net_run, opening_net}
 use Rattle.kt_node.specs.Erasing.{name_in, erased_parcels, erased_process, erased_node, rows_from}
 use Rattle.kt_node.proofs.Naming.{IsNaming, naming_of_log}

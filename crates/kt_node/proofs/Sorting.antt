@@ -8,7 +8,7 @@ use Rattle.kt_protocol.proofs.Updates.{at_one_here}
 use Rattle.kt_protocol.specs.States.{ProtocolStep}
 use Rattle.kt_machine.specs.Acts.{stepper}
 use Rattle.kt_spacetime.specs.declared.named_rows.NamedEvent.{NamedEvent}
-use Rattle.kt_node.specs.Nodes.{Input}
+use Rattle.kt_node.specs.Inputs.{Input}
 use Rattle.kt_node.specs.NodeSteps.{node_after}
 use Rattle.kt_spacetime.specs.declared.named_rows.ClockedRow.{ClockedRow}
 use Rattle.kt_spacetime.specs.ClockedRows.{rows_of}

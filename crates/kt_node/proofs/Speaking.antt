@@ -19,13 +19,14 @@ use Rattle.kt_spacetime.specs.declared.named_rows.NamedCause.TheVariants.{Down}
 use Rattle.kt_spacetime.specs.declared.named_rows.NamedEvent.TheVariants.{Dropped}
 use Rattle.kt_node.specs.declared.faults.ManagerFault.{ManagerFault}
 use Rattle.kt_node.specs.declared.faults.ManagerFault.TheVariants as fault
-use Rattle.kt_node.specs.declared.parcels.NodeParcel.{NodeParcel}
-use Rattle.kt_node.specs.declared.parcels.NodeParcel.TheVariants.{App, Ask, Reply, Decide}
-use Rattle.kt_node.specs.Nodes.{NodeLists, NodeState, Doing, Send, Held, nothing, is_in_rollback}
-use Rattle.kt_node.specs.NodeMessages.{sending, receiving, arriving, holding, taking_held, refusing}
+use Rattle.kt_manager.specs.declared.parcels.NodeParcel.{NodeParcel}
+use Rattle.kt_manager.specs.declared.parcels.NodeParcel.TheVariants.{App, Ask, Reply, Decide}
+use Rattle.kt_manager.specs.Nodes.{NodeLists, NodeState, Doing, nothing, is_in_rollback}
+use Rattle.kt_node.specs.Inputs.{Send, Held}
+use Rattle.kt_manager.specs.NodeMessages.{sending, receiving, arriving, holding, taking_held, refusing}
 use Rattle.kt_node.specs.NodeSteps.{is_step, node_after, taking}
 use Rattle.kt_node.specs.NodeHistories.{Histories, no_history, histories_after, histories}
-use Rattle.kt_node.specs.Managers.{number_in, process_of}
+use Rattle.kt_manager.specs.Managers.{number_in, process_of}
 use Rattle.kt_node.specs.Faults.{stranger, or_else, first_held, fault_at}
 use Rattle.kt_node.specs.Links.{NodeLinks, ShowsLinks, IsSpoken}
 use Rattle.kt_node.specs.Meetings.{label_of, held_of, received_label, is_stale_held}

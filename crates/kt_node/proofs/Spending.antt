@@ -7,7 +7,7 @@ use Rattle.kt_node.specs.declared.cluster.ClusterFault.{ClusterFault}
 use Rattle.kt_node.specs.declared.cluster.ClusterFault.TheVariants as cluster
 use Rattle.kt_node.specs.Clusters.{IsSpent, IsSpentOf, IsSpentAs}
 use Rattle.kt_node.specs.Clocks.{Envelope, clock_after}
-use Rattle.kt_node.specs.Nodes.{Input}
+use Rattle.kt_node.specs.Inputs.{Input}
 
 -- a node's call is refused exactly so
 pub spent_of : (X P Q : Type 0) (f : NodeFault) → (IsErrOf {T = X} (Err f) node.ClockSpent ↔ P) → (P → Q) → (Q → P) → IsSpentOf Q f

@@ -26,11 +26,11 @@ use Rattle.kt_machine.proofs.RunFacts.{channel_sent, held_to}
 use Rattle.kt_machine.proofs.Runs.{known_run, tells_runs}
 use Rattle.kt_machine.proofs.SameSeen.{count_none}
 use Rattle.kt_spacetime.specs.declared.names.InstName.{InstName}
-use Rattle.kt_node.specs.declared.parcels.NodeParcel.{NodeParcel}
-use Rattle.kt_node.specs.Nodes.{NodeState, nothing}
-use Rattle.kt_node.specs.NodeMessages.{taking_held}
-use Rattle.kt_node.specs.NodeJoining.{asking}
-use Rattle.kt_node.specs.NodeSteps.{is_in, heeds}
+use Rattle.kt_manager.specs.declared.parcels.NodeParcel.{NodeParcel}
+use Rattle.kt_manager.specs.Nodes.{NodeState, nothing}
+use Rattle.kt_manager.specs.NodeMessages.{taking_held}
+use Rattle.kt_node.specs.NodeSteps.{asking, heeds}
+use Rattle.kt_manager.specs.NodeSteps.{is_in}
 use Rattle.kt_node.specs.Nets.{Net, with_doing, with_rest, has_some, net_front, net_step}
 use Rattle.kt_node.specs.Erasing.{erased_parcels}
 use Rattle.kt_node.proofs.Naming.{IsNaming}

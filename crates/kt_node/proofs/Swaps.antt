@@ -4,8 +4,9 @@ use Rattle.std.specs.Prelude.{◌==◌, ◌&&◌, max, if◌then◌else◌}
 use Rattle.kt_protocol.proofs.Updates.{is_other, at_one_other}
 use Rattle.kt_protocol.specs.States.{ProtocolStep}
 use Rattle.kt_machine.specs.Acts.{stepper}
-use Rattle.kt_node.specs.declared.parcels.NodeParcel.{NodeParcel}
-use Rattle.kt_node.specs.Nodes.{NodeState, Input}
+use Rattle.kt_manager.specs.declared.parcels.NodeParcel.{NodeParcel}
+use Rattle.kt_manager.specs.Nodes.{NodeState}
+use Rattle.kt_node.specs.Inputs.{Input}
 use Rattle.kt_node.specs.NodeSteps.{node_after}
 use Rattle.kt_node.specs.Clocks.{Envelope, ClockedNet, envelope, source_of, input_at, clock_after, left_after, clocked_doing, clocked_step}
 use Rattle.kt_node.proofs.NetInputs.{GoesOn, IsBehind, goes_on, comes_back}

@@ -20,11 +20,12 @@ use Rattle.kt_machine.specs.Transition.{is_seen_ready}
 use Rattle.kt_spacetime.specs.declared.names.InstName.{InstName}
 use Rattle.kt_spacetime.specs.declared.named_rows.NamedCause.TheVariants as own_cause
 use Rattle.kt_meaning.specs.Names.{numbered_cause}
-use Rattle.kt_node.specs.declared.parcels.NodeParcel.TheVariants as put
-use Rattle.kt_node.specs.Nodes.{NodeState, Doing, nothing, is_in_rollback}
-use Rattle.kt_node.specs.NodeMessages.{unable}
-use Rattle.kt_node.specs.NodeJoining.{replying, unwilling, noting}
-use Rattle.kt_node.specs.NodeSteps.{is_one, is_in, asked_outside, asked, awaits, heeds, counting, taking}
+use Rattle.kt_manager.specs.declared.parcels.NodeParcel.TheVariants as put
+use Rattle.kt_manager.specs.Nodes.{NodeState, Doing, nothing, is_in_rollback}
+use Rattle.kt_manager.specs.NodeMessages.{unable}
+use Rattle.kt_manager.specs.NodeJoining.{replying, unwilling, noting}
+use Rattle.kt_manager.specs.NodeSteps.{is_one, is_in, asked_outside, asked, counting}
+use Rattle.kt_node.specs.NodeSteps.{awaits, heeds, taking}
 use Rattle.kt_node.specs.Nets.{Net}
 use Rattle.kt_node.proofs.Naming.{one_test}
 use Rattle.kt_node.proofs.Told.{given}

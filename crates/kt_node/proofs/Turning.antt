@@ -6,7 +6,8 @@ use Rattle.std.proofs.lemmas.Bool.{cases_eq}
 use Rattle.kt_protocol.specs.States.{ProtocolStep, Take}
 use Rattle.kt_protocol.proofs.Updates.{is_other}
 use Rattle.kt_machine.specs.Acts.{stepper}
-use Rattle.kt_node.specs.Nodes.{NodeState, Input, Held, Comes, is_in_rollback}
+use Rattle.kt_manager.specs.Nodes.{NodeState, is_in_rollback}
+use Rattle.kt_node.specs.Inputs.{Input, Held, Comes}
 use Rattle.kt_node.specs.Nets.{has_some}
 use Rattle.kt_node.specs.Clocks.{Envelope, envelope, source_of, front_input, input_at, clock_after, left_after}
 use Rattle.kt_node.specs.declared.cluster.OnWay.{OnWay}
@@ -16,7 +17,7 @@ use Rattle.kt_node.specs.declared.cluster.ClusterFault.{ClusterFault}
 use Rattle.kt_node.specs.declared.cluster.ClusterFault.TheVariants as cluster
 use Rattle.kt_node.specs.Clusters.{link, fault_coming, IsFront, IsRefusedIn, IsTurn}
 use Rattle.kt_node.specs.Faults.{fault_at}
-use Rattle.kt_node.specs.Links.{NodeLinks, IsStep, IsNodeRefusedAs}
+use Rattle.kt_node.specs.Links.{NodeLinks, IsStep, IsNodeFaultAs}
 use Rattle.kt_node.proofs.OnWay.{both_same, nobody, front_comes, front_left}
 
 -- nothing is taken of a link
@@ -74,8 +75,8 @@ front_turn old new before after y p q place able x out f e t is s =
 
 -- so a step of a cluster is refused that takes the front of a link
 pub refused_taken : {X : Type 0} (y : NodeState) (o : Option Input) (came : Input) (f : NodeFault) (r : Result X ClusterFault) → o ≡ Some came → IsErr r × IsErrAnd r (λ (g : ClusterFault). g ≡ cluster.Node f)
-    → IsNodeRefusedAs (fault_at y came) (Err f) → IsRefusedIn y o r
+    → IsNodeFaultAs (fault_at y came) f → IsRefusedIn y o r
 refused_taken y o came f (Ok out) e s p = absurd (cc s.0)
 refused_taken {X = X} y o came f (Err k) e s p =
     subst (λ (h : ClusterFault). IsRefusedIn {X = X} y o (Err h)) (sym s.1)
-    (subst (λ (i : Option Input). IsNodeRefusedAs (fault_coming y i) (Err f)) (sym e) p)
+    (subst (λ (i : Option Input). IsNodeFaultAs (fault_coming y i) f) (sym e) p)

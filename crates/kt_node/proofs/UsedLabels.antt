@@ -9,13 +9,15 @@ use Rattle.kt_machine.specs.SeenJoining.{no_note}
 use Rattle.kt_spacetime.specs.declared.names.InstName.{InstName}
 use Rattle.kt_spacetime.specs.declared.named_rows.NamedCause.TheVariants.{Down}
 use Rattle.kt_spacetime.specs.declared.named_rows.NamedEvent.TheVariants.{Decided}
-use Rattle.kt_node.specs.declared.parcels.NodeParcel.{NodeParcel}
-use Rattle.kt_node.specs.declared.parcels.NodeParcel.TheVariants.{App, Ask, Reply, Decide}
-use Rattle.kt_node.specs.Nodes.{NodeLists, NodeState, Input, Send, Begin, Fail, Held, Comes, Doing, nothing, putting, is_in_rollback}
-use Rattle.kt_node.specs.NodeMessages.{sending, failing, refusing, taking_held}
-use Rattle.kt_node.specs.NodeJoining.{next_name, beginning, joining_checkpoint, joining_rollback, asking}
-use Rattle.kt_node.specs.NodeClosing.{after_checkpoint, after_rollback, closing, ending, settling}
-use Rattle.kt_node.specs.NodeSteps.{is_one, starting, told_to_begin, asked, awaits, heeds, counting, taking, is_step, node_after}
+use Rattle.kt_manager.specs.declared.parcels.NodeParcel.{NodeParcel}
+use Rattle.kt_manager.specs.declared.parcels.NodeParcel.TheVariants.{App, Ask, Reply, Decide}
+use Rattle.kt_manager.specs.Nodes.{NodeLists, NodeState, Doing, nothing, putting, is_in_rollback}
+use Rattle.kt_node.specs.Inputs.{Input, Send, Begin, Fail, Held, Comes}
+use Rattle.kt_manager.specs.NodeMessages.{sending, failing, refusing, taking_held}
+use Rattle.kt_manager.specs.NodeJoining.{beginning, joining_checkpoint, joining_rollback}
+use Rattle.kt_node.specs.NodeSteps.{next_name, asking, awaits, heeds, taking, is_step, node_after}
+use Rattle.kt_manager.specs.NodeClosing.{after_checkpoint, after_rollback, closing, ending, settling}
+use Rattle.kt_manager.specs.NodeSteps.{is_one, starting, told_to_begin, asked, counting}
 
 -- parcels whose messages have labels up to this one
 abbrev pub IsUpTo : ℕ → NodeParcel → Type 0
@@ -75,11 +77,11 @@ replies : (used : ℕ) (q : ℕ) (k : InstName) (w : Bool) (u : ℕ) → AreUpTo
 replies used q k w u = puts_more used (λ v. v == q) (λ v. Reply k w) (λ v. []) (λ v. tt) (λ v. tt) u
 
 module _ (y : NodeState) where
-  starting_uses : (roll : Bool) → Uses y.used (starting y roll)
-  starting_uses false = settling_uses y.used (next_name y) (joining_checkpoint (next_name y) None (beginning y false)) (joins_checkpoint y.used (next_name y) None (beginning y false) (refl, λ q. tt))
-  starting_uses true = settling_uses y.used (next_name y) (joining_rollback (next_name y) None no_note (beginning y true)) (joins_rollback y.used (next_name y) None no_note (beginning y true) (refl, λ q. tt))
+  starting_uses : (roll : Bool) → Uses y.used (starting (next_name y) y roll)
+  starting_uses false = settling_uses y.used (next_name y) (joining_checkpoint (next_name y) None (beginning (next_name y) y false)) (joins_checkpoint y.used (next_name y) None (beginning (next_name y) y false) (refl, λ q. tt))
+  starting_uses true = settling_uses y.used (next_name y) (joining_rollback (next_name y) None no_note (beginning (next_name y) y true)) (joins_rollback y.used (next_name y) None no_note (beginning (next_name y) y true) (refl, λ q. tt))
 
-  begin_uses : (o : Option InstName) (roll able : Bool) → Uses y.used (told_to_begin o y roll able)
+  begin_uses : (o : Option InstName) (roll able : Bool) → Uses y.used (told_to_begin (next_name y) o y roll able)
   begin_uses (Some name) roll able = (refl, λ q. tt)
   begin_uses None true able = starting_uses true
   begin_uses None false able = either y.used (able && y.up) _ _ (starting_uses false) (refl, λ q. tt)
@@ -121,7 +123,7 @@ module _ (y : NodeState) where
 
   pub step_uses : (x : Input) → UsesOne (node_after y x)
   step_uses (Send q body) = either_one (is_step y (Send q body)) _ _ (either_one y.up (sending y q body) (refusing y verb.Send Down) (sends_one q body) (no_more (refusing y verb.Send Down) (refl, λ u. tt))) (no_more (nothing y) (none y))
-  step_uses (Begin roll able) = no_more (told_to_begin y.inst y roll able) (begin_uses y y.inst roll able)
+  step_uses (Begin roll able) = no_more (told_to_begin (next_name y) y.inst y roll able) (begin_uses y y.inst roll able)
   step_uses Fail = either_one y.up (failing y) (refusing y verb.Fail Down) (no_more (failing y) (refl, λ u. tt)) (no_more (refusing y verb.Fail Down) (refl, λ u. tt))
   step_uses (Held q) = either_one (is_in_rollback y) _ _ (no_more (nothing y) (none y)) (no_more (taking_held y q (y.held q)) (held_uses y q (y.held q)))
   step_uses (Comes q able x) = no_more (taking y q able x) (comes_uses q able x)

@@ -6,10 +6,11 @@ use Rattle.kt_machine.specs.Acts.{stepper}
 use Rattle.kt_machine.specs.Values.{Act}
 use Rattle.kt_spacetime.specs.declared.named_rows.NamedEvent.{NamedEvent}
 use Rattle.kt_meaning.specs.Names.{row_of}
-use Rattle.kt_node.specs.declared.parcels.NodeParcel.{NodeParcel}
+use Rattle.kt_manager.specs.declared.parcels.NodeParcel.{NodeParcel}
 use Rattle.kt_spacetime.specs.declared.named_rows.ClockedRow.{ClockedRow}
-use Rattle.kt_node.specs.Nodes.{NodeState, Input, is_in_rollback}
-use Rattle.kt_node.specs.Nodes as input
+use Rattle.kt_manager.specs.Nodes.{NodeState, is_in_rollback}
+use Rattle.kt_node.specs.Inputs.{Input}
+use Rattle.kt_node.specs.Inputs as input
 use Rattle.kt_node.specs.NodeSteps.{is_step, node_after}
 use Rattle.kt_node.specs.Nets.{has_some, opening_from}
 

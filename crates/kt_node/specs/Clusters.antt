@@ -8,9 +8,10 @@ use Rattle.kt_protocol.specs.States as protocol
 use Rattle.kt_machine.specs.Acts.{stepper}
 use Rattle.kt_spacetime.specs.declared.event.Event.{Event}
 use Rattle.kt_tables.specs.Calls.{Speaks}
-use Rattle.kt_system.specs.ShownActs.{acts_shown}
-use Rattle.kt_node.specs.Nodes.{NodeState, Input, Doing, nothing, is_in_rollback}
-use Rattle.kt_node.specs.Nodes as input
+use Rattle.kt_manager.specs.ShownActs.{acts_shown}
+use Rattle.kt_manager.specs.Nodes.{NodeState, Doing, nothing, is_in_rollback}
+use Rattle.kt_node.specs.Inputs.{Input}
+use Rattle.kt_node.specs.Inputs as input
 use Rattle.kt_node.specs.NodeSteps.{node_after}
 use Rattle.kt_node.specs.Nets.{opening_net, has_some}
 use Rattle.kt_node.specs.Clocks.{Envelope, ClockedNet, envelope, source_of, front_input, input_at, clock_after, left_after, clocked_input, clocked_run, opening_clocked}
@@ -25,9 +26,10 @@ use Rattle.kt_node.specs.declared.node.NodeFault.{NodeFault}
 use Rattle.kt_node.specs.declared.node.NodeFault.TheVariants as node_fault
 use Rattle.kt_node.specs.declared.node.Output.{Output}
 use Rattle.kt_node.specs.declared.faults.ManagerFault.{ManagerFault}
-use Rattle.kt_node.specs.Effects.{IsDone, put_to, rows_told}
+use Rattle.kt_node.specs.Effects.{IsDone}
+use Rattle.kt_manager.specs.Effects.{put_to}
 use Rattle.kt_node.specs.Faults.{fault_at}
-use Rattle.kt_node.specs.Links.{NodeLinks, ShowsLinks, IsNodeRefusedAs}
+use Rattle.kt_node.specs.Links.{NodeLinks, ShowsLinks, IsNodeFaultAs}
 use Rattle.kt_node.specs.Reaches.{HasReaches}
 
 -- the nodes, what is on its way, the oldest first, the rows of all in the order in which they were told, and the label that
@@ -110,7 +112,7 @@ IsRefusedIn y o (Ok x) = IsTaken y o
 IsRefusedIn y o (Err fault.Unknown) = ⊥
 IsRefusedIn y o (Err fault.NothingToTake) = o ≡ None
 IsRefusedIn y o (Err fault.Memory) = Unit {0}
-IsRefusedIn y o (Err (fault.Node f)) = IsNodeRefusedAs (fault_coming y o) (Err f)
+IsRefusedIn y o (Err (fault.Node f)) = IsNodeFaultAs (fault_coming y o) f
 
 -- what tables answer for at a step
 abbrev pub IsSpeakable : NodeState → ProtocolStep → List Envelope → Type 0
@@ -153,7 +155,7 @@ doing_in w x = doing_at (w.nodes (stepper x)) (clocked_input w x)
 pub record IsPutOut (w after : ClockedNet) (x : ProtocolStep) (out : Output) : Type 0 where
   pub from : out.from ≡ stepper x
   pub clock : out.clock ≡ after.clock (stepper x)
-  pub rows : rows_told out.effects.rows ≡ (doing_in w x).rows
+  pub rows : out.effects.rows ≡ (doing_in w x).rows
   pub acts : acts_shown out.effects.acts ≡ (doing_in w x).acts
   pub parcels : (q : ℕ) → put_to out.effects.parcels q ≡ (doing_in w x).puts q
 

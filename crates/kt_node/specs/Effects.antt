@@ -1,49 +1,20 @@
 -- What a step puts out, as the node's rules have it.
-use Rattle.std.specs.Prelude.{◌≡◌, ℕ, ◌==◌, if◌then◌else◌, Option, Some, None, List, [], ◌∷◌}
-use Rattle.kt_base.specs.Sets.{has}
-use Rattle.kt_base.specs.declared.words.Kind.{Kind}
-use Rattle.kt_spacetime.specs.declared.names.InstName.{InstName}
-use Rattle.kt_spacetime.specs.declared.named_rows.NamedEvent.{NamedEvent}
-use Rattle.kt_node.specs.declared.parcels.NodeParcel.{NodeParcel}
-use Rattle.kt_node.specs.declared.parcels.NodeParcel.TheVariants.{Ask, Decide}
+use Rattle.std.specs.Prelude.{◌≡◌, ℕ, List}
 use Rattle.kt_tables.specs.Calls.{Call}
-use Rattle.kt_node.specs.Nodes.{Doing}
+use Rattle.kt_manager.specs.Nodes.{Doing}
+use Rattle.kt_manager.specs.ShownActs.{acts_shown}
+use Rattle.kt_manager.specs.Effects.{put_to}
+use Rattle.kt_manager.specs.Told.{Told}
 use Rattle.kt_node.specs.NodeHistories.{calls_told}
-use Rattle.kt_system.specs.ShownActs.{acts_shown}
-use Rattle.kt_node.specs.declared.effects.Effects.{Effects}
-use Rattle.kt_node.specs.declared.effects.Parcels.{Parcels}
-use Rattle.kt_node.specs.declared.effects.Parcels.TheVariants as puts
 use Rattle.kt_node.specs.Managers.{ManagerState, ShowsNode}
 
--- the rows that are told
-abbrev pub rows_told : List (Option NamedEvent) → List NamedEvent
-rows_told [] = []
-rows_told (None ∷ rows) = rows_told rows
-rows_told (Some row ∷ rows) = row ∷ rows_told rows
-
--- the label that stands beside a process
-abbrev pub label_for : List (ℕ × ℕ) → ℕ → Option ℕ
-label_for [] q = None
-label_for (ask ∷ asks) q = if ask.0 == q then Some ask.1 else label_for asks q
-
-abbrev pub ask_with : InstName → Kind → Option ℕ → List NodeParcel
-ask_with k kind None = []
-ask_with k kind (Some label) = Ask k kind label ∷ []
-
--- what is put for a process
-abbrev pub put_to : Parcels → ℕ → List NodeParcel
-put_to puts.Nothing q = []
-put_to (puts.One to parcel) q = if q == to then parcel ∷ [] else []
-put_to (puts.Asks k kind asks) q = ask_with k kind (label_for asks q)
-put_to (puts.Decisions k c to) q = if has to q then Decide k c ∷ [] else []
-
 -- the calls on tables that they tell
-abbrev pub calls_of : Effects → List Call
-calls_of e = calls_told (rows_told e.rows) (acts_shown e.acts)
+abbrev pub calls_of : Told → List Call
+calls_of e = calls_told e.rows (acts_shown e.acts)
 
--- a manager has done this, and these are its effects
-pub record IsDone (w : ManagerState) (e : Effects) (d : Doing) : Type 0 where
+-- a manager has done this, and this is told of it
+pub record IsDone (w : ManagerState) (e : Told) (d : Doing) : Type 0 where
   pub state : ShowsNode w d.state
   pub puts : (q : ℕ) → put_to e.parcels q ≡ d.puts q
-  pub rows : rows_told e.rows ≡ d.rows
+  pub rows : e.rows ≡ d.rows
   pub acts : acts_shown e.acts ≡ d.acts

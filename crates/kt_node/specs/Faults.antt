@@ -1,13 +1,13 @@
 -- When a manager does not take a step.
 use Rattle.std.specs.Prelude.{◌≡◌, ℕ, ◌==◌, ◌&&◌, ◌||◌, ◌-◌, ◌^◌, Bool, true, false, not, nat_lt, nat_le, if◌then◌else◌, Option, Some, None, is_some, Result, Ok, Err, List, [], ◌∷◌}
-use Rattle.kt_node.specs.declared.parcels.NodeParcel.{NodeParcel}
-use Rattle.kt_node.specs.declared.parcels.NodeParcel.TheVariants.{App, Ask, Reply, Decide}
-use Rattle.kt_node.specs.Nodes.{NodeState, Input, Send, Begin, Fail, Held, Comes, is_in_rollback}
+use Rattle.kt_manager.specs.declared.parcels.NodeParcel.{NodeParcel}
+use Rattle.kt_manager.specs.declared.parcels.NodeParcel.TheVariants.{App, Ask, Reply, Decide}
+use Rattle.kt_manager.specs.Nodes.{NodeState, is_in_rollback}
+use Rattle.kt_node.specs.Inputs.{Input, Send, Begin, Fail, Held, Comes}
 use Rattle.kt_node.specs.NodeSteps.{is_begun, awaits, heeds}
 use Rattle.kt_node.specs.Nets.{has_some}
 use Rattle.kt_node.specs.declared.faults.ManagerFault.{ManagerFault}
 use Rattle.kt_node.specs.declared.faults.ManagerFault.TheVariants as fault
-use Rattle.kt_node.specs.declared.effects.Effects.{Effects}
 
 -- another process that is there
 abbrev pub stranger : NodeState → ℕ → Option ManagerFault
@@ -68,6 +68,6 @@ but_memory fault.Memory = None
 but_memory f = Some f
 
 -- a call is refused exactly so
-abbrev pub IsRefusedAs : Option ManagerFault → Result Effects ManagerFault → Type 0
-IsRefusedAs o (Ok e) = o ≡ None
+abbrev pub IsRefusedAs : {X : Type 0} → Option ManagerFault → Result X ManagerFault → Type 0
+IsRefusedAs o (Ok made) = o ≡ None
 IsRefusedAs o (Err f) = o ≡ but_memory f

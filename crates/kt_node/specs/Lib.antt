@@ -1,9 +1,6 @@
 pub use Rattle.kt_machine.specs.SeenActs
 pub use Rattle.kt_meaning.specs.Names
-pub mod Nodes
-pub mod NodeMessages
-pub mod NodeJoining
-pub mod NodeClosing
+pub mod Inputs
 pub mod NodeSteps
 pub mod Nets
 pub mod Erasing
@@ -13,11 +10,11 @@ pub mod Numbered
 pub mod NodeLooks
 pub mod NodeHistories
 pub mod Managers
+pub mod Begins
 pub mod ManagerParts
 pub mod OwnParts
 pub mod Effects
 pub mod Faults
-pub mod Turns
 pub mod Reaches
 pub mod Links
 pub mod Meetings

@@ -2,10 +2,11 @@
 use Rattle.std.specs.Prelude.{◌≡◌, ◌+◌, ◌-◌, ◌^◌, ◌<◌, ◌≤◌, ℕ, max, Bool, true, false, Option, None, Result, Ok, Err, List, length, slice_index}
 use Rattle.kt_meaning.specs.Past.{at_one}
 use Rattle.kt_tables.specs.Calls.{Speaks}
-use Rattle.kt_node.specs.Nodes.{NodeState, Input}
+use Rattle.kt_manager.specs.Nodes.{NodeState}
+use Rattle.kt_node.specs.Inputs.{Input}
 use Rattle.kt_node.specs.NodeSteps.{node_after, taking}
-use Rattle.kt_node.specs.declared.parcels.NodeParcel.{NodeParcel}
-use Rattle.kt_node.specs.declared.parcels.NodeParcel.TheVariants.{App, Ask, Reply, Decide}
+use Rattle.kt_manager.specs.declared.parcels.NodeParcel.{NodeParcel}
+use Rattle.kt_manager.specs.declared.parcels.NodeParcel.TheVariants.{App, Ask, Reply, Decide}
 use Rattle.kt_node.specs.declared.node.Output.{Output}
 use Rattle.kt_node.specs.declared.node.Taken.{Taken}
 use Rattle.kt_node.specs.declared.node.Taken.TheVariants.{Step, Again}
@@ -57,12 +58,12 @@ pub record IsSameNode (new old : NodeLinks) : Type 0 where
 
 -- the next parcel of a process is taken, and an earlier one changes nothing
 abbrev pub TakesNext : NodeLinks → NodeLinks → ℕ → ℕ → Taken → Type 0
-TakesNext old new from number (Step out) = (number ≡ slice_index old.taken from + 1) × ((q : ℕ) → slice_index new.taken q ≡ at_one from number (slice_index old.taken) q)
+TakesNext old new from number Step = (number ≡ slice_index old.taken from + 1) × ((q : ℕ) → slice_index new.taken q ≡ at_one from number (slice_index old.taken) q)
 TakesNext old new from number Again = (number ≤ slice_index old.taken from) × (new ≡ old)
 
 -- a parcel that makes a step makes this one
-abbrev pub IsUntaken : Taken → (Output → Type 0) → Type 0
-IsUntaken (Step out) P = P out
+abbrev pub IsUntaken : Taken → Type 0 → Type 0
+IsUntaken Step P = P
 IsUntaken Again P = Unit {0}
 
 -- where a message comes, tables answer for the calls after it
@@ -89,22 +90,25 @@ IsMetAs (Ok false) result = result ≡ Ok Again
 IsMetAs (Err f) result = result ≡ Err f
 
 -- a message that is held is refused where it is stale, and else given to the manager
-abbrev pub IsHeldMetAs : Bool → Result Output NodeFault → Type 0
+abbrev pub IsHeldMetAs : {X : Type 0} → Bool → Result X NodeFault → Type 0
 IsHeldMetAs true result = result ≡ Err fault.Stale
 IsHeldMetAs false result = IsGiven result
 
 -- a call that is given to the manager is refused exactly so, but for the clock and memory
-abbrev pub IsNodeRefusedAs : Option ManagerFault → Result Output NodeFault → Type 0
-IsNodeRefusedAs o (Ok out) = o ≡ None
-IsNodeRefusedAs o (Err (fault.Manager f)) = o ≡ but_memory f
-IsNodeRefusedAs o (Err fault.ClockSpent) = Unit {0}
-IsNodeRefusedAs o (Err fault.Astray) = ⊥
-IsNodeRefusedAs o (Err (fault.Gap n)) = ⊥
-IsNodeRefusedAs o (Err fault.Leap) = ⊥
-IsNodeRefusedAs o (Err fault.Stale) = ⊥
+abbrev pub IsNodeFaultAs : Option ManagerFault → NodeFault → Type 0
+IsNodeFaultAs o (fault.Manager f) = o ≡ but_memory f
+IsNodeFaultAs o fault.ClockSpent = Unit {0}
+IsNodeFaultAs o fault.Astray = ⊥
+IsNodeFaultAs o (fault.Gap n) = ⊥
+IsNodeFaultAs o fault.Leap = ⊥
+IsNodeFaultAs o fault.Stale = ⊥
+
+abbrev pub IsNodeRefusedAs : {X : Type 0} → Option ManagerFault → Result X NodeFault → Type 0
+IsNodeRefusedAs o (Ok made) = o ≡ None
+IsNodeRefusedAs o (Err f) = IsNodeFaultAs o f
 
 abbrev pub IsParcelRefusedAs : Option ManagerFault → Result Taken NodeFault → Type 0
-IsParcelRefusedAs o (Ok (Step out)) = o ≡ None
+IsParcelRefusedAs o (Ok Step) = o ≡ None
 IsParcelRefusedAs o (Ok Again) = Unit {0}
 IsParcelRefusedAs o (Err (fault.Manager f)) = o ≡ but_memory f
 IsParcelRefusedAs o (Err fault.ClockSpent) = Unit {0}

@@ -3,8 +3,9 @@ use Rattle.std.specs.Prelude.{◌&&◌, ◌-◌, ◌^◌, not, nat_lt, max, if�
 use Rattle.kt_meaning.specs.Past.{is_rollback_kind}
 use Rattle.kt_plan.specs.declared.steps.Look.{Look}
 use Rattle.kt_plan.specs.declared.steps.Look.TheVariants.{Idle, NeedsSave, Plain}
-use Rattle.kt_node.specs.Nodes.{NodeState, Input}
-use Rattle.kt_node.specs.Nodes as input
+use Rattle.kt_manager.specs.Nodes.{NodeState}
+use Rattle.kt_node.specs.Inputs.{Input}
+use Rattle.kt_node.specs.Inputs as input
 use Rattle.kt_node.specs.NodeLooks.{would_save}
 use Rattle.kt_node.specs.declared.inputs.Input.{Input as Coming}
 use Rattle.kt_node.specs.declared.inputs.Input.TheVariants.{Send, Begin, Fail, Redeliver, Deliver}

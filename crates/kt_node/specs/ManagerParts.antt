@@ -10,8 +10,7 @@ state_of x = record {
   process = x.process;
   inst = x.inst;
   begun = x.begun;
-  held = x.held;
-  kept = x.kept;
+  inbox = x.inbox;
   asks = x.asks;
   answered = x.answered;
 }

@@ -1,11 +1,12 @@
 -- How a node meets what comes of a process, before its manager takes it.
 use Rattle.std.specs.Prelude.{ℕ, ◌+◌, ◌-◌, ◌==◌, ◌&&◌, ◌||◌, not, nat_lt, nat_le, max, if◌then◌else◌, Bool, true, false, Option, Some, None, Result, Ok, Err, List, length, slice_get, slice_index}
-use Rattle.kt_node.specs.declared.parcels.NodeParcel.{NodeParcel}
-use Rattle.kt_node.specs.declared.parcels.NodeParcel.TheVariants.{App, Ask, Reply, Decide}
+use Rattle.kt_manager.specs.declared.parcels.NodeParcel.{NodeParcel}
+use Rattle.kt_manager.specs.declared.parcels.NodeParcel.TheVariants.{App, Ask, Reply, Decide}
 use Rattle.kt_node.specs.declared.node.Envelope.{Envelope}
 use Rattle.kt_node.specs.declared.node.NodeFault.{NodeFault}
 use Rattle.kt_node.specs.declared.node.NodeFault.TheVariants as fault
-use Rattle.kt_node.specs.Managers.{lists_to}
+use Rattle.kt_manager.specs.Managers.{as_parcels}
+use Rattle.kt_manager.specs.Inboxes as kept_lists
 use Rattle.kt_node.specs.Links.{NodeLinks}
 
 -- how far a clock or a label may be above the one that a node has: 2^40
@@ -25,7 +26,7 @@ label_of (Some (Decide k c)) = 0
 
 -- what a node holds of a process, and the label at a place of it
 abbrev pub held_of : NodeLinks → ℕ → List NodeParcel
-held_of w q = lists_to w.manager.held w.manager.me q
+held_of w q = as_parcels (kept_lists.held_of w.manager.inbox) q
 
 abbrev pub held_label : NodeLinks → ℕ → ℕ → ℕ
 held_label w q place = label_of (slice_get (held_of w q) place)

@@ -6,9 +6,9 @@ use Rattle.kt_machine.specs.Seen.{no_part}
 use Rattle.kt_machine.specs.Values.{Act}
 use Rattle.kt_spacetime.specs.declared.named_rows.NamedRow.{NamedRow}
 use Rattle.kt_meaning.specs.Names.{row_of}
-use Rattle.kt_node.specs.declared.parcels.NodeParcel.{NodeParcel}
-use Rattle.kt_node.specs.Nodes.{NodeState, Doing, is_in_rollback}
-use Rattle.kt_node.specs.Nodes as input
+use Rattle.kt_manager.specs.declared.parcels.NodeParcel.{NodeParcel}
+use Rattle.kt_manager.specs.Nodes.{NodeState, Doing, is_in_rollback}
+use Rattle.kt_node.specs.Inputs as input
 use Rattle.kt_node.specs.NodeSteps.{node_after}
 
 pub record Net : Type 0 where

@@ -4,7 +4,7 @@ use Rattle.std.specs.List.{flat_map}
 use Rattle.kt_tables.specs.Calls.{Call, sent, received, on_tentative, on_commit, on_abort, on_rollback}
 use Rattle.kt_machine.specs.Values.{Act, Apply, Keep, Promote, Discard, Restore, Drop}
 use Rattle.kt_spacetime.specs.declared.named_rows.NamedEvent.{NamedEvent}
-use Rattle.kt_node.specs.Nodes.{NodeState}
+use Rattle.kt_manager.specs.Nodes.{NodeState}
 use Rattle.kt_spacetime.specs.declared.named_rows.NamedEvent.TheVariants.{Sent, Received, Dropped, Began, Took, Ready, Unwilling, Decided, Closed, Failed, Refused}
 
 -- the messages of a node's live history, those of them that its last tentative checkpoint has, and its permanent one

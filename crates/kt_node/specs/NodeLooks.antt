@@ -2,9 +2,10 @@
 use Rattle.std.specs.Prelude.{ℕ, ◌&&◌, not, Bool, false, Some, is_none}
 use Rattle.kt_meaning.specs.Past.{is_rollback_kind}
 use Rattle.kt_machine.specs.CallTests.{must_take}
-use Rattle.kt_node.specs.declared.parcels.NodeParcel.{NodeParcel}
-use Rattle.kt_node.specs.declared.parcels.NodeParcel.TheVariants.{App, Ask, Reply, Decide}
-use Rattle.kt_node.specs.Nodes.{NodeState, Input, Send, Begin, Fail, Held, Comes}
+use Rattle.kt_manager.specs.declared.parcels.NodeParcel.{NodeParcel}
+use Rattle.kt_manager.specs.declared.parcels.NodeParcel.TheVariants.{App, Ask, Reply, Decide}
+use Rattle.kt_manager.specs.Nodes.{NodeState}
+use Rattle.kt_node.specs.Inputs.{Input, Send, Begin, Fail, Held, Comes}
 
 -- the same input, where the object can be saved or not
 abbrev pub where_able : Bool → Input → Input

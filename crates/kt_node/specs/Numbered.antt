@@ -4,7 +4,8 @@ use Rattle.kt_meaning.specs.Past.{at_one}
 use Rattle.kt_protocol.specs.States.{ProtocolStep}
 use Rattle.kt_machine.specs.Acts.{stepper}
 use Rattle.kt_spacetime.specs.declared.named_rows.ClockedRow.{ClockedRow}
-use Rattle.kt_node.specs.Nodes.{NodeState, Input, is_in_rollback}
+use Rattle.kt_manager.specs.Nodes.{NodeState, is_in_rollback}
+use Rattle.kt_node.specs.Inputs.{Input}
 use Rattle.kt_node.specs.NodeSteps.{node_after}
 use Rattle.kt_node.specs.Nets.{has_some, opening_from}
 use Rattle.kt_node.specs.Clocks.{Envelope, ClockedNet, envelope, clocked_row, clock_after, front_input, input_at, source_of}

@@ -1,15 +1,7 @@
 -- Which part in an instance is a manager's own.
-use Rattle.std.specs.Prelude.{◌≡◌, ℕ, ◌<◌, ◌≤◌, length}
-use Rattle.kt_fifo.specs.Channels.{channel}
-use Rattle.kt_process.specs.Shown.{part_shown, inst_shown}
-use Rattle.kt_node.specs.Nodes.{NodeState}
-use Rattle.kt_node.specs.Managers.{ManagerState, number_in}
+use Rattle.kt_manager.specs.OwnParts.{HasOwnPart as HasOwnCorePart}
+use Rattle.kt_node.specs.Managers.{ManagerState, core_of}
 
--- its process is in an instance exactly where that has a name, and as many parcels of each sender are kept as its part marks
-pub record HasOwnPart (w : ManagerState) : Type 0 where
-  pub named : inst_shown w.process.side ≡ number_in w.inst
-  pub marks : (q : ℕ) → q < w.size → (part_shown w.process.side).marks q ≤ length (channel w.kept q w.me)
-
--- a node keeps as many messages of each sender as its part marks
-abbrev pub HasOwnMarks : NodeState → Type 0
-HasOwnMarks y = (q : ℕ) → y.part.marks q ≤ length (y.kept q)
+-- that of the manager that it guards
+abbrev pub HasOwnPart : ManagerState → Type 0
+HasOwnPart w = HasOwnCorePart (core_of w)

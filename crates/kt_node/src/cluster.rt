@@ -10,15 +10,14 @@ ghost use Rattle.kt_node.specs.Clocks.{clocked_acts, clocked_row, AreByClock};
 ghost use Rattle.kt_node.specs.Erasing.{rows_from};
 ghost use Rattle.kt_spacetime.specs.declared.named_rows.ClockedRow.{ClockedRow as clocked_rows};
 ghost use Rattle.kt_spacetime.specs.ClockedRows.{rows_of};
-ghost use Rattle.kt_system.specs.ShownActs.{acts_shown};
-ghost use Rattle.kt_node.specs.Effects.{rows_told};
+ghost use Rattle.kt_manager.specs.ShownActs.{acts_shown};
 ghost use Rattle.kt_node.specs.Links.{NodeLinks};
 ghost use Rattle.kt_node.specs.Clusters.{step_of, net_after, IsRun, AreFresh, ArePromised, coming_to, IsRefusedIn, IsSpentIn, IsSpentAs, IsPutOut, HasNextNumbers};
 ghost use Rattle.kt_node.specs.declared.cluster.ClusterFault.TheVariants as fault;
 
 use crate::node::{Node, NodeFault, Output};
-use crate::parcels::NodeParcel;
 use kt_base::{Kind, Label, Memory, ProcNo};
+use kt_manager::NodeParcel;
 use kt_spacetime::ClockedRow;
 use std::alloc::Global;
 use std::marker::Model;
@@ -204,7 +203,7 @@ impl Cluster {
             IfOk result (λ out. acts_shown out.effects.acts
             ≡ clocked_acts (net_after self.old steps) (step_of next.now)) }
         ensures rows { IfOk result (λ out. self.new.rows ≡ self.old.rows
-            ++ map (clocked_row (stepper (step_of next.now)) out.clock) (rows_told out.effects.rows)) }
+            ++ map (clocked_row (stepper (step_of next.now)) out.clock) out.effects.rows) }
         ensures refused { (steps : List ProtocolStep) → IsRun self.old steps →
             let w = net_after self.old steps in
             (result ≡ Err fault.Unknown → ⊥) →

@@ -12,11 +12,13 @@ ghost use Rattle.kt_meaning.specs.Names.{numbered};
 ghost use Rattle.kt_machine.specs.SeenActs.{seen_acts};
 ghost use Rattle.kt_machine.specs.Values.{Keep};
 ghost use Rattle.kt_meaning.specs.Promised.{IsPromised, IsCertified};
-ghost use Rattle.kt_node.specs.declared.parcels.NodeParcel.{NodeParcel};
-ghost use Rattle.kt_node.specs.declared.parcels.NodeParcel.TheVariants.{Ask, Reply, Decide};
-ghost use Rattle.kt_node.specs.Nodes.{NodeState, Input, Comes, nothing};
-ghost use Rattle.kt_node.specs.Nodes as input;
-ghost use Rattle.kt_node.specs.NodeSteps.{is_in, is_begun, heeds, node_after};
+ghost use Rattle.kt_manager.specs.declared.parcels.NodeParcel.{NodeParcel};
+ghost use Rattle.kt_manager.specs.declared.parcels.NodeParcel.TheVariants.{Ask, Reply, Decide};
+ghost use Rattle.kt_manager.specs.Nodes.{NodeState, nothing};
+ghost use Rattle.kt_node.specs.Inputs.{Input, Comes};
+ghost use Rattle.kt_node.specs.Inputs as input;
+ghost use Rattle.kt_manager.specs.NodeSteps.{is_in};
+ghost use Rattle.kt_node.specs.NodeSteps.{is_begun, heeds, node_after};
 ghost use Rattle.kt_node.specs.Faults.{fault_at};
 ghost use Rattle.kt_node.specs.NodeLooks.{where_able, would_save};
 ghost use Rattle.kt_node.specs.NodeHistories.{histories, calls_told, GoesOn, HasCheckpoints};
@@ -40,9 +42,10 @@ ghost use Rattle.kt_node.specs.Links.{NodeLinks};
 ghost use Rattle.kt_node.specs.Meetings.{far, last_label, meeting_of};
 ghost use Rattle.kt_node.specs.declared.node.Envelope.{Envelope};
 ghost use Rattle.kt_node.specs.declared.node.NodeFault.TheVariants as fault;
-ghost use Rattle.kt_node.specs.declared.parcels.NodeParcel.TheVariants.{App};
+ghost use Rattle.kt_manager.specs.declared.parcels.NodeParcel.TheVariants.{App};
 ghost use Rattle.kt_node.specs.Managers.{ManagerState, ShowsNode};
-ghost use Rattle.kt_node.specs.OwnParts.{HasOwnPart, HasOwnMarks};
+ghost use Rattle.kt_manager.specs.OwnParts.{HasOwnMarks};
+ghost use Rattle.kt_node.specs.OwnParts.{HasOwnPart};
 
 /// For every number of nodes, every label that they count on from, and every list of steps: a net is what is seen of
 /// kt_protocol's late machine after the same steps, by the names that its log gives; and its rows are that log.
@@ -180,7 +183,7 @@ pub fn nodes_of_numbered_nets()
     ensures comes { (w : NumberedNet) (p q : ℕ) (able : Bool) (number : ℕ) (e : ClockedParcel) (old new : NodeLinks)
         (out : Output) → ShowsNumbered old w p → with_number number (w.put q p) ≡ e ∷ [] →
         let x = input.Comes q able e.parcel in fault_at (w.nodes p) x ≡ None →
-        TakesNext old new q number (Step out) → IsStep old new e.clock (w.nodes p) x out →
+        TakesNext old new q number Step → IsStep old new e.clock (w.nodes p) x out →
         ShowsNumbered new (numbered_step w (happens.Comes p q able number)) p }
     ensures again { (w : NumberedNet) (p q : ℕ) (able : Bool) (number : ℕ) (old new : NodeLinks) →
         ShowsNumbered old w p → TakesNext old new q number Again →

@@ -6,21 +6,19 @@
 //! parcels have numbers, by which it tests that they come once and in order, and whose steps have clocks. That a parcel of a
 //! process with a number is the one that this process put is its caller's to see to.
 //!
-//! **What to change where:** what a manager holds `manager.rt`; messages and failures `manager/messages.rt`; beginning,
-//! joining and closing `manager/instances.rt`; any parcel `manager/parcels.rt`; whether its part in an instance is its own
-//! `manager/own_part.rt`, `specs/OwnParts`; what a step needs of the object `manager/looks.rt`, `inputs.rt`, `specs/Looks`;
-//! what a step puts out `effects.rt`; when a call is refused `faults.rt`, `specs/Faults`; numbers and clocks `node.rt`,
-//! `specs/Links`; which parcels are met `meeting.rt`, `specs/Meetings`; what its permanent checkpoint has `reach.rt`,
-//! `specs/Reaches`; nodes with links in one program `cluster.rt`, one step of theirs `cluster/turns.rt`, which net they are
-//! `specs/Clusters`; laws `laws.rt`, of histories beside a log `histories.rt`, `specs/LoggedHistories`. What a node is by
-//! definition: what it has `specs/Nodes`; its rules `specs/NodeMessages`, `specs/NodeJoining`, `specs/NodeClosing`,
-//! `specs/NodeSteps`; what a step needs of its object `specs/NodeLooks`; what is in its permanent checkpoint
-//! `specs/NodeHistories`; nets `specs/Nets`, their first labels `specs/FirstLabels`, their parts `specs/NetParts`; parcels
-//! `parcels.rt`; rows with clocks `specs/Clocks`.
+//! **What to change where:** how a manager guards itself `manager.rt`; messages and failures `manager/messages.rt`; beginning,
+//! joining and closing `manager/instances.rt`; any parcel `manager/parcels.rt`; what a manager does that is not guarded
+//! kt_manager; what a step needs of the object `manager/looks.rt`, `inputs.rt`, `specs/Looks`; when a call is refused
+//! `faults.rt`, `specs/Faults`; numbers and clocks `node.rt`, `specs/Links`; which parcels are met `meeting.rt`,
+//! `specs/Meetings`; what its permanent checkpoint has `reach.rt`, `specs/Reaches`; nodes with links in one program
+//! `cluster.rt`, one step of theirs `cluster/turns.rt`, which net they are `specs/Clusters`; laws `laws.rt`, of histories
+//! beside a log `histories.rt`, `specs/LoggedHistories`. What a node is by definition: what comes to it `specs/Inputs`; what
+//! it does then `specs/NodeSteps`, by the rules of kt_manager; what a step needs of its object `specs/NodeLooks`; what is in
+//! its permanent checkpoint `specs/NodeHistories`; nets `specs/Nets`, their first labels `specs/FirstLabels`, their parts
+//! `specs/NetParts`; rows with clocks `specs/Clocks`.
 #![tactic(auto)]
 
 mod cluster;
-mod effects;
 mod faults;
 mod histories;
 mod inputs;
@@ -28,15 +26,14 @@ mod laws;
 mod manager;
 mod meeting;
 mod node;
-mod parcels;
 mod reach;
 mod worked;
 
 pub use cluster::{Cluster, ClusterFault, ClusterStep};
-pub use effects::{Effects, Parcels};
 pub use faults::ManagerFault;
 pub use histories::histories_of_nets;
 pub use inputs::Input;
+pub use kt_manager::{Effects, NodeParcel, Parcels};
 pub use laws::{
     acts_of_nets, calls_of_nodes, forged_parcels, logs_of_nets, looks_of_nodes,
     meetings_of_parcels, merges_of_nets, nets_are_runs, nodes_of_numbered_nets,
@@ -44,6 +41,5 @@ pub use laws::{
 };
 pub use manager::{Manager, ManagerParts};
 pub use node::{Envelope, Node, NodeFault, Output, Taken};
-pub use parcels::NodeParcel;
 pub use reach::{Reach, Reaches};
 pub use worked::worked_nets;

@@ -1,43 +1,35 @@
-//! A manager: what it holds, and what can be read of it.
+//! A manager with its guards: what it holds, and what can be read of it.
 
-ghost use Rattle.std.specs.Prelude.{◌≡◌, ◌<◌, ◌≤◌, ◌&&◌, ◌↔◌, not, ℕ, true, false, Some, None, IsTrue, IfOk, IfErr, IfSome, IfNone, OnOk, OnErr, IsErrOf};
-ghost use Rattle.kt_process.specs.ProcessStates.{is_ready};
-ghost use Rattle.kt_node.specs.Nodes.{NodeState, is_in_rollback};
-ghost use Rattle.kt_node.specs.NodeSteps.{is_in, is_one};
+ghost use Rattle.std.specs.Prelude.{◌≡◌, ◌<◌, ◌≤◌, ◌&&◌, ◌↔◌, not, ℕ, true, false, Some, None, IsTrue, IfOk, IfErr, IfSome, IfNone, OnOk, IsErrOf};
+ghost use Rattle.kt_manager.specs.Nodes.{NodeState, is_in_rollback};
 ghost use Rattle.kt_node.specs.Nets.{opening_net, has_some};
-ghost use Rattle.kt_node.specs.Managers.{IsSoundManager, ShowsNode, HasBack, IsSameManager, number_for};
+ghost use Rattle.kt_manager.specs.Messages.{has_some as has_item};
+ghost use Rattle.kt_manager.specs.Inboxes.{held_of};
+ghost use Rattle.kt_manager.specs.Managers.{IsSoundManager as IsSoundCore, size_of, is_rolling};
+ghost use Rattle.kt_node.specs.Managers.{IsSoundManager, ShowsNode, core_of};
 ghost use Rattle.kt_node.specs.ManagerParts.{state_of};
 ghost use Rattle.kt_node.specs.OwnParts.{HasOwnPart};
 ghost use Rattle.kt_node.specs.Faults.{stranger};
 ghost use Rattle.kt_node.specs.declared.faults.ManagerFault.TheVariants as fault;
 
 use crate::faults::ManagerFault;
-use kt_base::{InstNo, Label, Memory, ProcNo, ProcSet};
-use kt_fifo::Channels;
+use kt_base::{Label, Memory, ProcNo, ProcSet};
+use kt_manager::{Inbox, Manager as Core, ManagerParts as CoreParts};
 use kt_process::Process;
 use kt_spacetime::{Count, InstName};
-use kt_system::make_room_back;
 use std::alloc::Global;
 use std::marker::Model;
 
 mod instances;
 mod looks;
 mod messages;
-mod own_part;
 mod parcels;
 
-use own_part::has_own_part;
-
-/// One process's manager, by names of its own.
+/// One process's manager, by names of its own, which takes no parcel that is not due.
 #[derive(Drop)]
 pub struct Manager {
-    size: usize,
-    me: ProcNo,
-    process: Process,
-    inst: Option<InstName>,
+    core: Core,
     begun: u64,
-    held: Channels,
-    kept: Channels,
     asks: [Option<InstName>; 64],
     answered: ProcSet,
 }
@@ -49,8 +41,7 @@ pub struct ManagerParts {
     pub process: Process,
     pub inst: Option<InstName>,
     pub begun: u64,
-    pub held: Channels,
-    pub kept: Channels,
+    pub inbox: Inbox,
     pub asks: [Option<InstName>; 64],
     pub answered: ProcSet,
 }
@@ -60,9 +51,9 @@ impl Model for Manager {
 
     ghost Value = { ManagerState };
 
-    ghost view = { λ m. record { size = m.size; me = m.me; process = m.process; inst = m.inst; begun = m.begun; held = m.held; kept = m.kept; asks = m.asks; answered = m.answered } };
+    ghost view = { λ m. record { size = m.core.process.tables.processes; me = m.core.me; process = m.core.process; inst = m.core.inst; begun = m.begun; inbox = m.core.inbox; asks = m.asks; answered = m.answered } };
 
-    ghost invariant = { λ m. IsSoundManager (record { size = m.size; me = m.me; process = m.process; inst = m.inst; begun = m.begun; held = m.held; kept = m.kept; asks = m.asks; answered = m.answered }) };
+    ghost invariant = { λ m. IsSoundManager (record { size = m.core.process.tables.processes; me = m.core.me; process = m.core.process; inst = m.core.inst; begun = m.begun; inbox = m.core.inbox; asks = m.asks; answered = m.answered }) };
 }
 
 impl Manager {
@@ -72,14 +63,11 @@ impl Manager {
         requires few { processes ≤ 64 }
         ensures shows { IfOk result (λ m. ShowsNode m ((opening_net processes used).nodes me)) }
     {
+        let core = Core::new(alloc, me, processes, used)?;
+        let _size = core.size();
         Ok(Manager {
-            size: processes,
-            me,
-            process: Process::new(alloc, processes, used)?,
-            inst: None,
+            core,
             begun: 0,
-            held: Channels::new(alloc, processes)?,
-            kept: Channels::new(alloc, processes)?,
             asks: [None; 64],
             answered: ProcSet::empty(),
         })
@@ -91,22 +79,23 @@ impl Manager {
         ensures fits { IfSome result (λ m. HasOwnPart m) }
         ensures none { IfNone result (IsSoundManager (state_of parts) × HasOwnPart (state_of parts) → ⊥) }
     {
-        if !are_sound(&parts) {
+        if parts.begun > Count::MAX {
             return None;
         }
-        if !has_own_part(&parts) {
-            return None;
-        }
-        Some(Manager {
-            size: parts.process.tables().processes(),
+        let (begun, answered) = (parts.begun, parts.answered);
+        let asks = parts.asks;
+        let core = Core::of(CoreParts {
             me: parts.me,
             process: parts.process,
             inst: parts.inst,
-            begun: parts.begun,
-            held: parts.held,
-            kept: parts.kept,
-            asks: parts.asks,
-            answered: parts.answered,
+            inbox: parts.inbox,
+        })?;
+        let _size = core.size();
+        Some(Manager {
+            core,
+            begun,
+            asks,
+            answered,
         })
     }
 
@@ -115,7 +104,7 @@ impl Manager {
         ensures size { result ≡ self.now.size }
         ensures few { result ≤ 64 }
     {
-        self.size
+        self.core.size()
     }
 
     /// Which process it is of.
@@ -123,7 +112,7 @@ impl Manager {
         ensures me { result ≡ self.now.me }
         ensures within { result < self.now.size }
     {
-        self.me
+        self.core.me()
     }
 
     /// Its process.
@@ -131,7 +120,7 @@ impl Manager {
         ensures process { result.now ≡ self.now.process }
         ensures sound { IsSoundManager self.now }
     {
-        &self.process
+        self.core.process()
     }
 
     /// How many instances it began.
@@ -141,20 +130,13 @@ impl Manager {
         self.begun
     }
 
-    /// What it holds while it is in a rollback, in the lists to itself.
-    pub fn held(&self) -> &Channels
-        ensures held { result.now ≡ self.now.held }
-        ensures size { result.now.processes ≡ self.now.size }
+    /// Its messages of each other process: those that it keeps of what it received past its permanent checkpoint, and those
+    /// that it holds while it is in a rollback.
+    pub fn inbox(&self) -> &Inbox
+        ensures inbox { result.now ≡ self.now.inbox }
+        ensures sound { IsSoundManager self.now }
     {
-        &self.held
-    }
-
-    /// What it received past its permanent checkpoint, in the lists to itself.
-    pub fn kept(&self) -> &Channels
-        ensures kept { result.now ≡ self.now.kept }
-        ensures size { result.now.processes ≡ self.now.size }
-    {
-        &self.kept
+        self.core.inbox()
     }
 
     /// By process: the instance that its last ask named.
@@ -175,55 +157,30 @@ impl Manager {
     pub fn in_inst(&self) -> Option<InstName>
         ensures { result ≡ self.now.inst }
     {
-        self.inst
+        self.core.in_inst()
     }
 
     /// Whether its object is up.
     pub fn is_up(&self) -> bool
         ensures { result ≡ self.now.process.up }
     {
-        self.process.is_up()
+        self.core.is_up()
     }
 
     /// Whether it is in a rollback.
     pub fn is_in_rollback(&self) -> bool
-        ensures { (y : NodeState) → ShowsNode self.now y → result ≡ is_in_rollback y }
+        ensures state { result ≡ is_rolling (core_of self.now) }
+        ensures node { (y : NodeState) → ShowsNode self.now y → result ≡ is_in_rollback y }
     {
-        self.inst.is_some() && self.process.is_ready()
-    }
-
-    /// Whether it is in this instance.
-    fn is_in(&self, inst: &InstName) -> bool
-        ensures { result ≡ is_in self.now.inst inst.now }
-    {
-        match &self.inst {
-            Some(name) => is_one(name, inst),
-            None => false,
-        }
-    }
-
-    /// The number by which its process knows an instance.
-    fn number_for(&self, inst: &InstName) -> InstNo
-        ensures { result ≡ number_for self.now.inst inst.now }
-    {
-        match &self.inst {
-            Some(name) => {
-                if is_one(name, inst) {
-                    here()
-                } else {
-                    elsewhere()
-                }
-            }
-            None => here(),
-        }
+        self.core.is_in_rollback()
     }
 
     /// Whether it holds something of a process.
     fn holds(&self, from: ProcNo) -> bool
-        requires { from < self.now.size }
-        ensures { (y : NodeState) → ShowsNode self.now y → result ≡ has_some (y.held from) }
+        ensures state { result ≡ has_item (held_of self.now.inbox from) }
+        ensures node { (y : NodeState) → ShowsNode self.now y → result ≡ has_some (y.held from) }
     {
-        self.held.front(from, self.me).is_some()
+        self.core.holds(from)
     }
 
     /// Whether it could take something now that it holds of a process.
@@ -231,7 +188,7 @@ impl Manager {
         ensures { (y : NodeState) → ShowsNode self.now y →
             result ≡ (not (is_in_rollback y) && has_some (y.held from)) }
     {
-        !self.is_in_rollback() && (from.index() < self.size && self.holds(from))
+        !self.is_in_rollback() && self.holds(from)
     }
 
     /// The least process of which it holds something that it could take now.
@@ -246,7 +203,7 @@ impl Manager {
         if self.is_in_rollback() {
             return None;
         }
-        self.held.senders(self.me).first()
+        self.core.inbox().holds().first()
     }
 
     /// Whether another process is there.
@@ -257,56 +214,21 @@ impl Manager {
             stranger y q ≡ Some f) }
         ensures memory { IsErrOf result fault.Memory → ⊥ }
     {
-        if q.index() >= self.size {
+        if q.index() >= self.size() {
             return Err(ManagerFault::Unknown);
         }
-        if q.get() == self.me.get() {
+        if q.get() == self.me().get() {
             return Err(ManagerFault::Itself);
         }
         Ok(())
     }
-
-    /// Room to hold all that it keeps, where it is in a rollback.
-    fn make_room_back(&mut self) -> Result<(), Memory>
-        ensures same { IsSameManager self.new self.old }
-        ensures back { OnOk result (is_ready self.old.process.side ≡ true → HasBack self.new) }
-        ensures memory { OnErr result (is_ready self.old.process.side ≡ true) }
-    {
-        if self.process.is_ready() {
-            return make_room_back(&mut self.held, &self.kept, self.me);
-        }
-        Ok(())
-    }
 }
 
-/// Whether these parts belong together.
-fn are_sound(parts: &ManagerParts) -> bool
-    ensures { IsTrue result ↔ IsSoundManager (state_of parts.now) }
+/// A manager that is guarded is sound, and of at most 64 processes.
+fn sound(core: &Core)
+    ensures few { size_of core.now ≤ 64 }
+    ensures sound { IsSoundCore core.now }
 {
-    let size = parts.process.tables().processes();
-    parts.me.index() < size
-        && parts.begun <= Count::MAX
-        && parts.held.processes() == size
-        && parts.kept.processes() == size
-}
-
-/// Whether a name is that of another instance too.
-fn is_one(name: &InstName, inst: &InstName) -> bool
-    ensures { result ≡ is_one name.now inst.now }
-{
-    name.initiator.get() == inst.initiator.get() && name.count.get() == inst.count.get()
-}
-
-/// The instance that it is in, or may join now, as its process counts.
-fn here() -> InstNo
-    ensures { result ≡ 1 }
-{
-    InstNo::new(1).unwrap()
-}
-
-/// Any other one.
-fn elsewhere() -> InstNo
-    ensures { result ≡ 2 }
-{
-    InstNo::new(2).unwrap()
+    let _size = core.size();
+    let _inbox = core.inbox();
 }

@@ -4,9 +4,8 @@ ghost use Rattle.std.specs.Prelude.{◌≡◌, length};
 ghost use Rattle.kt_node.specs.Meetings.{held_label, held_of, is_far, is_far_message, is_leap, is_stale, is_stale_held, last_label, meeting_of, received_label};
 
 use crate::node::{Envelope, Node, NodeFault};
-use crate::parcels::NodeParcel;
 use kt_base::ProcNo;
-use kt_fifo::Parcel;
+use kt_manager::NodeParcel;
 
 /// How far a clock or a label may be above the one that a node has: 2^40.
 const FAR: u64 = 1_099_511_627_776;
@@ -73,24 +72,27 @@ impl Node {
     fn held_count(&self, from: ProcNo) -> usize
         ensures { result ≡ length (held_of self.now from) }
     {
-        let (held, me) = (self.manager().held(), self.manager().me());
-        if from.index() >= self.manager().size() {
+        let inbox = self.manager().inbox();
+        if from.index() >= inbox.processes() {
             return 0;
         }
-        held.len(from, me)
+        inbox.len(from) - inbox.kept_count(from)
     }
 
     /// The label at a place of what it holds of a process, 0 for none.
     fn held_label(&self, from: ProcNo, place: usize) -> u64
         ensures { result ≡ held_label self.now from place }
     {
-        let (held, me) = (self.manager().held(), self.manager().me());
-        if from.index() >= self.manager().size() {
+        let inbox = self.manager().inbox();
+        let held = self.held_count(from);
+        if place >= held {
             return 0;
         }
-        match held.get(from, me, place) {
-            Some(Parcel::App { label, .. }) => label.get(),
-            Some(Parcel::Ask { .. } | Parcel::Reply { .. } | Parcel::Decide { .. }) | None => 0,
+        let kept = inbox.len(from) - held;
+        let behind = kept + place;
+        match inbox.get(from, behind) {
+            Some(item) => item.label.get(),
+            None => 0,
         }
     }
 }

@@ -5,12 +5,15 @@ ghost use Rattle.std.specs.Option.{option_to_list, option_map};
 ghost use Rattle.kt_meaning.specs.Past.{at_one, is_rollback_kind};
 ghost use Rattle.kt_tables.specs.Calls.{Call, sent, receiveds, Speaks};
 ghost use Rattle.kt_tables.specs.Labels.{greatest};
-ghost use Rattle.kt_node.specs.Nodes.{NodeState, Send, Begin, Fail, Held, Comes};
+ghost use Rattle.kt_manager.specs.Nodes.{NodeState};
+ghost use Rattle.kt_node.specs.Inputs.{Send, Begin, Fail, Held, Comes};
 ghost use Rattle.kt_node.specs.NodeSteps.{is_step, node_after};
 ghost use Rattle.kt_node.specs.NodeHistories.{histories, sent_labels};
 ghost use Rattle.kt_node.specs.Nets.{opening_net};
 ghost use Rattle.kt_node.specs.Managers.{ShowsNode};
-ghost use Rattle.kt_node.specs.Effects.{put_to, calls_of};
+ghost use Rattle.kt_node.specs.Effects.{calls_of};
+ghost use Rattle.kt_manager.specs.Told.{nothing_told};
+ghost use Rattle.kt_manager.specs.Effects.{put_to};
 ghost use Rattle.kt_node.specs.Faults.{fault_at, wants_memory};
 ghost use Rattle.kt_node.specs.Looks.{is_met, node_look};
 ghost use Rattle.kt_node.specs.Meetings.{is_stale_held, meeting_of, next_number};
@@ -19,13 +22,12 @@ ghost use Rattle.kt_node.specs.Links.{AreCounted, ShowsLinks, IsStep, TakesNext,
 ghost use Rattle.kt_node.specs.declared.faults.ManagerFault.TheVariants as of_manager;
 ghost use Rattle.kt_node.specs.declared.node.NodeFault.TheVariants as fault;
 
-use crate::effects::{Effects, Parcels};
 use crate::faults::ManagerFault;
 use crate::inputs::Input;
 use crate::manager::Manager;
-use crate::parcels::NodeParcel;
 use crate::reach::{Reach, Reaches};
 use kt_base::{Kind, Label, Memory, ProcNo};
+use kt_manager::{Effects, NodeParcel, Parcels};
 use kt_plan::Look;
 use std::alloc::Global;
 use std::marker::Model;
@@ -57,7 +59,7 @@ pub struct Output {
 /// What became of a parcel: it made a step, or had come before and changes nothing.
 #[derive(Drop)]
 pub enum Taken {
-    Step(Output),
+    Step,
     Again,
 }
 
@@ -113,6 +115,18 @@ impl Model for Node {
 }
 
 impl Output {
+    /// The output of no step, to be filled by one.
+    pub fn new() -> Output
+        ensures { result.effects ≡ nothing_told }
+    {
+        Output {
+            from: ProcNo::nth(0),
+            clock: 0,
+            effects: Effects::new(),
+            numbers: [0; 64],
+        }
+    }
+
     /// The parcel for a process, if there is one.
     pub fn to(&self, q: ProcNo) -> Option<Envelope>
         ensures parcel { option_to_list (option_map (λ e. e.parcel) result)
@@ -121,7 +135,7 @@ impl Output {
         ensures number { IfSome result (λ e. e.number ≡ slice_index self.now.numbers q) }
         ensures clock { IfSome result (λ e. e.clock ≡ self.now.clock) }
     {
-        match self.effects.parcels.to(q) {
+        match self.effects.parcels().to(q) {
             Some(parcel) => Some(Envelope {
                 from: self.from,
                 to: q,
@@ -276,33 +290,30 @@ impl Node {
         Ok(latest + 1)
     }
 
-    /// A step has this clock, and its parcels get the next numbers.
-    fn put(&mut self, clock: u64, effects: Effects) -> Output
+    /// A step with these effects has this clock, and its parcels get the next numbers.
+    fn put(&mut self, clock: u64, out: &mut Output)
         requires later { self.old.clock < clock }
         requires few { clock < 2 ^ 64 - 1 }
         ensures manager { self.new.manager ≡ self.old.manager }
         ensures clock { self.new.clock ≡ clock }
         ensures sent { (q : ℕ) → q < 64 →
             slice_index self.new.sent q
-            ≡ slice_index self.old.sent q + length (put_to effects.parcels q) }
+            ≡ slice_index self.old.sent q + length (put_to out.old.effects.parcels q) }
         ensures taken { self.new.taken ≡ self.old.taken }
         ensures reaches { (calls : List Call) → HasReaches self.old.reaches calls →
-            HasReaches self.new.reaches (calls ++ calls_of effects) }
-        ensures effects { result.effects ≡ effects }
-        ensures from { result.from ≡ self.old.manager.me }
-        ensures told { result.clock ≡ clock }
-        ensures numbers { result.numbers ≡ self.new.sent }
+            HasReaches self.new.reaches (calls ++ calls_of out.old.effects) }
+        ensures effects { out.new.effects ≡ out.old.effects }
+        ensures from { out.new.from ≡ self.old.manager.me }
+        ensures told { out.new.clock ≡ clock }
+        ensures numbers { out.new.numbers ≡ self.new.sent }
     {
-        let numbers = counted(&self.sent, &effects.parcels);
+        let numbers = counted(&self.sent, out.effects.parcels());
         self.clock = clock;
         self.sent = numbers;
-        self.reaches.follow(&effects);
-        Output {
-            from: self.manager.me(),
-            clock,
-            effects,
-            numbers,
-        }
+        self.reaches.follow(&out.effects);
+        out.from = self.manager.me();
+        out.clock = clock;
+        out.numbers = numbers;
     }
 
     /// So many parcels of a process were taken.
@@ -319,9 +330,9 @@ impl Node {
     }
 
     /// It sends a message to another process; where its object is down, it refuses.
-    pub fn send(&mut self, to: ProcNo, body: i64) -> Result<Output, NodeFault>
+    pub fn send(&mut self, to: ProcNo, body: i64, out: &mut Output) -> Result<(), NodeFault>
         ensures done { (y : NodeState) → ShowsNode self.old.manager y →
-            IfOk result (IsStep self.old self.new 0 y (Send to body)) }
+            OnOk result (IsStep self.old self.new 0 y (Send to body) out.new) }
         ensures step { (y : NodeState) → ShowsNode self.old.manager y →
             OnOk result (is_step y (Send to body) ≡ true) }
         ensures refused { (y : NodeState) → ShowsNode self.old.manager y →
@@ -331,11 +342,13 @@ impl Node {
         ensures memory { IsErrOf result (fault.Manager of_manager.Memory) → ⊥ }
         ensures taken { self.new.taken ≡ self.old.taken }
         ensures err { OnErr result (IsSameNode self.new self.old) }
+        ensures out { OnErr result (out.new ≡ out.old) }
     {
         self.speaks();
         let clock = self.next_clock(0)?;
-        let effects = self.manager.send(to, body)?;
-        Ok(self.put(clock, effects))
+        self.manager.send(to, body, &mut out.effects)?;
+        self.put(clock, out);
+        Ok(())
     }
 
     /// Tables answer for a message that it sends in no instance: its label is above all those before.
@@ -347,25 +360,34 @@ impl Node {
     }
 
     /// It begins an instance of a kind, or refuses: in an instance, and a checkpoint where its object can't be saved.
-    pub fn begin(&mut self, alloc: Global, kind: Kind, able: bool) -> Result<Output, NodeFault>
+    pub fn begin(
+        &mut self,
+        alloc: Global,
+        kind: Kind,
+        able: bool,
+        out: &mut Output,
+    ) -> Result<(), NodeFault>
         ensures done { (y : NodeState) → ShowsNode self.old.manager y →
-            IfOk result (IsStep self.old self.new 0 y (Begin (is_rollback_kind (Some kind)) able)) }
+            OnOk result
+            (IsStep self.old self.new 0 y (Begin (is_rollback_kind (Some kind)) able) out.new) }
         ensures refused { (y : NodeState) → ShowsNode self.old.manager y →
             IsNodeRefusedAs (fault_at y (Begin (is_rollback_kind (Some kind)) able)) result }
         ensures given { IsGiven result }
         ensures spent { IsErrOf result fault.ClockSpent ↔ (2 ^ 64 - 2 ≤ self.old.clock) }
         ensures taken { self.new.taken ≡ self.old.taken }
         ensures err { OnErr result (IsSameNode self.new self.old) }
+        ensures out { OnErr result (out.new ≡ out.old) }
     {
         let clock = self.next_clock(0)?;
-        let effects = self.manager.begin(alloc, kind, able)?;
-        Ok(self.put(clock, effects))
+        self.manager.begin(alloc, kind, able, &mut out.effects)?;
+        self.put(clock, out);
+        Ok(())
     }
 
     /// Its object fails; where that is down already, it refuses.
-    pub fn fail(&mut self) -> Result<Output, NodeFault>
+    pub fn fail(&mut self, out: &mut Output) -> Result<(), NodeFault>
         ensures done { (y : NodeState) → ShowsNode self.old.manager y →
-            IfOk result (IsStep self.old self.new 0 y Fail) }
+            OnOk result (IsStep self.old self.new 0 y Fail out.new) }
         ensures refused { (y : NodeState) → ShowsNode self.old.manager y →
             IsNodeRefusedAs (fault_at y Fail) result }
         ensures given { IsGiven result }
@@ -373,16 +395,18 @@ impl Node {
         ensures memory { IsErrOf result (fault.Manager of_manager.Memory) → ⊥ }
         ensures taken { self.new.taken ≡ self.old.taken }
         ensures err { OnErr result (IsSameNode self.new self.old) }
+        ensures out { OnErr result (out.new ≡ out.old) }
     {
         let clock = self.next_clock(0)?;
-        let effects = self.manager.fail();
-        Ok(self.put(clock, effects))
+        self.manager.fail(&mut out.effects);
+        self.put(clock, out);
+        Ok(())
     }
 
     /// It takes the first message that it holds of a process, as one that comes.
-    pub fn redeliver(&mut self, from: ProcNo) -> Result<Output, NodeFault>
+    pub fn redeliver(&mut self, from: ProcNo, out: &mut Output) -> Result<(), NodeFault>
         ensures done { (y : NodeState) → ShowsLinks self.old y →
-            IfOk result (IsStep self.old self.new 0 y (Held from)) }
+            OnOk result (IsStep self.old self.new 0 y (Held from) out.new) }
         ensures met { IsHeldMetAs (is_stale_held self.old from) result }
         ensures refused { (y : NodeState) → ShowsNode self.old.manager y →
             is_stale_held self.old from ≡ false →
@@ -393,18 +417,19 @@ impl Node {
             IsErrOf result (fault.Manager of_manager.Memory) → wants_memory y (Held from) ≡ true }
         ensures taken { self.new.taken ≡ self.old.taken }
         ensures err { OnErr result (IsSameNode self.new self.old) }
+        ensures out { OnErr result (out.new ≡ out.old) }
     {
         if self.is_stale_held(from) {
             return Err(NodeFault::Stale);
         }
-        self.take_held(from)
+        self.take_held(from, out)
     }
 
     /// The same, where what it holds rises.
-    pub(crate) fn take_held(&mut self, from: ProcNo) -> Result<Output, NodeFault>
+    pub(crate) fn take_held(&mut self, from: ProcNo, out: &mut Output) -> Result<(), NodeFault>
         ensures done { (y : NodeState) → ShowsNode self.old.manager y →
             Speaks ((node_after y (Held from)).state.calls) →
-            IfOk result (IsStep self.old self.new 0 y (Held from)) }
+            OnOk result (IsStep self.old self.new 0 y (Held from) out.new) }
         ensures refused { (y : NodeState) → ShowsNode self.old.manager y →
             IsNodeRefusedAs (fault_at y (Held from)) result }
         ensures given { IsGiven result }
@@ -413,10 +438,12 @@ impl Node {
             IsErrOf result (fault.Manager of_manager.Memory) → wants_memory y (Held from) ≡ true }
         ensures taken { self.new.taken ≡ self.old.taken }
         ensures err { OnErr result (IsSameNode self.new self.old) }
+        ensures out { OnErr result (out.new ≡ out.old) }
     {
         let clock = self.next_clock(0)?;
-        let effects = self.manager.take_held(from)?;
-        Ok(self.put(clock, effects))
+        self.manager.take_held(from, &mut out.effects)?;
+        self.put(clock, out);
+        Ok(())
     }
 
     /// A parcel of another process comes: the next one of it makes a step, an earlier one changes nothing, and a later one is
@@ -427,11 +454,12 @@ impl Node {
         from: ProcNo,
         able: bool,
         envelope: &Envelope,
+        out: &mut Output,
     ) -> Result<Taken, NodeFault>
         ensures next { IfOk result (λ t. TakesNext self.old self.new from envelope.now.number t) }
         ensures done { let x = Comes from able envelope.now.parcel in
             (y : NodeState) → ShowsLinks self.old y →
-            IfOk result (λ t. IsUntaken t (IsStep self.old self.new envelope.now.clock y x)) }
+            IfOk result (λ t. IsUntaken t (IsStep self.old self.new envelope.now.clock y x out.new)) }
         ensures met { IsMetAs (meeting_of self.old from envelope.now) result }
         ensures refused { (y : NodeState) → ShowsNode self.old.manager y →
             IsParcelRefusedAs (fault_at y (Comes from able envelope.now.parcel)) result }
@@ -442,12 +470,13 @@ impl Node {
             (y : NodeState) → ShowsNode self.old.manager y →
             IsErrOf result (fault.Manager of_manager.Memory) → wants_memory y x ≡ true }
         ensures err { OnErr result (IsSameNode self.new self.old) }
+        ensures out { OnErr result (out.new ≡ out.old) }
     {
         if !self.meet(from, envelope)? {
             return Ok(Taken::Again);
         }
-        let output = self.take(alloc, from, able, envelope.clock, &envelope.parcel)?;
-        Ok(Taken::Step(output))
+        self.take(alloc, from, able, envelope.clock, &envelope.parcel, out)?;
+        Ok(Taken::Step)
     }
 
     /// The next parcel of another process comes, with this clock.
@@ -458,10 +487,11 @@ impl Node {
         able: bool,
         came: u64,
         parcel: &NodeParcel,
-    ) -> Result<Output, NodeFault>
+        out: &mut Output,
+    ) -> Result<(), NodeFault>
         ensures done { (y : NodeState) → ShowsNode self.old.manager y →
             IsSpoken y from able parcel.now →
-            IfOk result (IsStep self.old self.new came y (Comes from able parcel.now)) }
+            OnOk result (IsStep self.old self.new came y (Comes from able parcel.now) out.new) }
         ensures refused { (y : NodeState) → ShowsNode self.old.manager y →
             IsNodeRefusedAs (fault_at y (Comes from able parcel.now)) result }
         ensures given { IsGiven result }
@@ -472,13 +502,15 @@ impl Node {
         ensures taken { OnOk result ((q : ℕ) → slice_index self.new.taken q
             ≡ at_one from (next_number self.old from) (slice_index self.old.taken) q) }
         ensures err { OnErr result (IsSameNode self.new self.old) }
+        ensures out { OnErr result (out.new ≡ out.old) }
     {
         let next = self.taken[from.index()] + 1;
         let clock = self.next_clock(came)?;
-        let effects = self.manager.take(alloc, from, able, parcel)?;
-        let output = self.put(clock, effects);
+        self.manager
+            .take(alloc, from, able, parcel, &mut out.effects)?;
+        self.put(clock, out);
         self.note(from, next);
-        Ok(output)
+        Ok(())
     }
 }
 

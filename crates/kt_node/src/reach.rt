@@ -3,13 +3,13 @@
 ghost use Rattle.std.specs.Prelude.{◌≡◌, ◌∷◌, ◌++◌, [], ℕ, List, max};
 ghost use Rattle.std.specs.List.{flat_map};
 ghost use Rattle.kt_tables.specs.Calls.{Call, sent, received};
-ghost use Rattle.kt_system.specs.ShownActs.{act_shown, acts_shown};
+ghost use Rattle.kt_manager.specs.ShownActs.{act_shown, acts_shown};
 ghost use Rattle.kt_node.specs.NodeHistories.{call_of_row, call_of_act};
 ghost use Rattle.kt_node.specs.Reaches.{IsReach, HasReaches};
-ghost use Rattle.kt_node.specs.Effects.{rows_told, calls_of};
+ghost use Rattle.kt_node.specs.Effects.{calls_of};
 
-use crate::effects::Effects;
 use kt_base::{Label, ProcNo};
+use kt_manager::Effects;
 use kt_plan::Act;
 use kt_spacetime::{Count, NamedEvent};
 
@@ -104,14 +104,12 @@ impl Reaches {
     }
 
     /// Some rows are told.
-    fn tell_all(&mut self, rows: &[Option<NamedEvent>])
+    fn tell_all(&mut self, rows: &[NamedEvent])
         ensures { (calls : List Call) → HasReaches self.old calls →
-            HasReaches self.new (calls ++ flat_map call_of_row (rows_told rows.now)) }
+            HasReaches self.new (calls ++ flat_map call_of_row rows.now) }
     {
         for row in rows {
-            if let Some(row) = row {
-                self.tell(row);
-            }
+            self.tell(row);
         }
     }
 
@@ -130,7 +128,7 @@ impl Reaches {
         ensures { (calls : List Call) → HasReaches self.old calls →
             HasReaches self.new (calls ++ calls_of effects.now) }
     {
-        self.tell_all(&effects.rows);
-        self.obey_all(&effects.acts);
+        self.tell_all(effects.rows());
+        self.obey_all(effects.acts());
     }
 }

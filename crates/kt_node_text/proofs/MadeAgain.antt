@@ -10,7 +10,8 @@ use Rattle.kt_process.specs.Shown.{part_shown}
 use Rattle.kt_machine.specs.Seen.{SeenPart}
 use Rattle.kt_node.specs.OwnParts.{HasOwnPart}
 use Rattle.kt_spacetime.specs.declared.names.InstName.{InstName}
-use Rattle.kt_node.specs.Managers.{ManagerState, IsSoundManager, number_in}
+use Rattle.kt_node.specs.Managers.{ManagerState, IsSoundManager}
+use Rattle.kt_manager.specs.Managers.{number_in}
 use Rattle.kt_node.specs.Links.{NodeLinks, AreCounted}
 use Rattle.kt_node.specs.declared.reach.Reaches.{Reaches}
 use Rattle.kt_node_text.specs.Form.{gather, counted, of_parcel, of_lists, of_flag, of_name, of_side, of_tables, of_process, of_manager, of_list, of_reaches, numbers_of, version}

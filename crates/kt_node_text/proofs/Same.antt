@@ -14,7 +14,7 @@ use Rattle.kt_tables.specs.Standing.{TablesStandFor}
 use Rattle.kt_machine.specs.Seen.{SeenProcess}
 use Rattle.kt_process.specs.ProcessStates.{ProcessState, ProcessFits}
 use Rattle.kt_process.specs.Shown.{IsSeenAs}
-use Rattle.kt_node.specs.Nodes.{NodeState}
+use Rattle.kt_manager.specs.Nodes.{NodeState}
 use Rattle.kt_node.specs.Managers.{ManagerState, IsSoundManager, lists_to, no_name, ShowsNode, HoldsFor}
 use Rattle.kt_node.specs.Erasing.{erased_parcels}
 use Rattle.kt_node.specs.Links.{NodeLinks, ShowsLinks}

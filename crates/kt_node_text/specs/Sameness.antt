@@ -1,6 +1,6 @@
 -- What is so of each node, and when two are the same but for room.
 use Rattle.std.specs.Prelude.{◌≡◌, ◌<◌, ◌^◌, ℕ, List, All}
-use Rattle.kt_node.specs.Nodes.{NodeState}
+use Rattle.kt_manager.specs.Nodes.{NodeState}
 use Rattle.kt_process.specs.ProcessStates.{ProcessFits}
 use Rattle.kt_node.specs.Managers.{IsSoundManager, lists_to}
 use Rattle.kt_node.specs.Links.{NodeLinks, AreCounted, ShowsLinks}

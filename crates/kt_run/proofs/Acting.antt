@@ -21,7 +21,7 @@ use Rattle.kt_promises.specs.Runs.{RunReaches}
 use Rattle.kt_promises.specs.StepActs.{acts_of_step}
 use Rattle.kt_promises.specs.Steps.{enabled, progress_after, process_of_step}
 use Rattle.kt_promises.specs.Progress.{Progress}
-use Rattle.kt_system.specs.ShownActs.{acts_shown}
+use Rattle.kt_manager.specs.ShownActs.{acts_shown}
 use Rattle.kt_machine.specs.Done.{done}
 use Rattle.kt_machine.specs.Values as values
 use Rattle.kt_machine.specs.Values.{Rules, Due, due, first_due, acts_along}

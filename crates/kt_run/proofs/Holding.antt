@@ -15,7 +15,7 @@ use Rattle.kt_object.specs.Fits.{spares_of, spares_of_all, is_up_after}
 use Rattle.kt_plan.specs.declared.steps.Act.{Act}
 use Rattle.kt_plan.specs.declared.steps.Act.TheVariants as answered
 use Rattle.kt_spacetime.specs.declared.event.Event.{Event}
-use Rattle.kt_system.specs.ShownActs.{act_shown, acts_shown}
+use Rattle.kt_manager.specs.ShownActs.{act_shown, acts_shown}
 use Rattle.kt_machine.specs.Done.{done}
 use Rattle.kt_machine.specs.Values as values
 use Rattle.kt_machine.specs.Values.{Rules, Due, due, first_due, acts_along}

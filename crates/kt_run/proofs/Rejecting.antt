@@ -28,7 +28,7 @@ use Rattle.kt_plan.specs.declared.steps.Told.{Told}
 use Rattle.kt_promises.specs.Runs.{RunReaches}
 use Rattle.kt_promises.specs.StepActs.{keeps_only_first, acts_of_step}
 use Rattle.kt_promises.specs.Progress.{Progress}
-use Rattle.kt_system.specs.ShownActs.{acts_shown}
+use Rattle.kt_manager.specs.ShownActs.{acts_shown}
 use Rattle.kt_machine.specs.Done.{done}
 use Rattle.kt_machine.specs.Values as values
 use Rattle.kt_machine.specs.Values.{Rules, Due, due, can_all}

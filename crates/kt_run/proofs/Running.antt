@@ -17,7 +17,7 @@ use Rattle.kt_promises.specs.Steps.{enabled, progress_after, process_of_step}
 use Rattle.kt_promises.specs.StepActs.{acts_of_step}
 use Rattle.kt_promises.specs.Told.{told_at}
 use Rattle.kt_promises.specs.Offers.{GivesOffer, GivesOffers}
-use Rattle.kt_system.specs.ShownActs.{acts_shown}
+use Rattle.kt_manager.specs.ShownActs.{acts_shown}
 use Rattle.kt_system.specs.Systems.{LogGrows}
 use Rattle.kt_core.specs.Worlds.{World, step_refusal, is_full, numbered_row, can_make}
 use Rattle.kt_core.specs.declared.faults.StepFault.TheVariants.{NotEnabled, LogFull}

@@ -17,7 +17,7 @@ use Rattle.kt_promises.specs.Told.{StepTold, told_at, told_by, told_by_move}
 use Rattle.kt_promises.specs.Progress.{Progress, progress_at_start}
 use Rattle.kt_spacetime.specs.Events.{process_of}
 use Rattle.kt_spacetime.specs.declared.event.Event.{Event}
-use Rattle.kt_system.specs.ShownActs.{acts_shown}
+use Rattle.kt_manager.specs.ShownActs.{acts_shown}
 use Rattle.kt_system.specs.Systems.{LogGrows}
 use Rattle.kt_run.proofs.Numbering.{Row}
 use Rattle.kt_run.specs.RunLaws.{RunLaws}

@@ -9,7 +9,7 @@ use Rattle.kt_promises.specs.Told.{StepTold, told_by}
 use Rattle.kt_promises.specs.Progress.{progress_at_start}
 use Rattle.kt_spacetime.specs.Events.{process_of}
 use Rattle.kt_spacetime.specs.declared.event.Event.{Event}
-use Rattle.kt_system.specs.ShownActs.{acts_shown}
+use Rattle.kt_manager.specs.ShownActs.{acts_shown}
 
 -- rows with their numbers, which go on after so many rows
 abbrev pub numbered : ℕ → List Event → List (ℕ × Event)

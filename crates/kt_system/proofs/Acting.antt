@@ -20,7 +20,7 @@ use Rattle.kt_machine.specs.Seen.{SeenPart, SeenProcess, Seen}
 use Rattle.kt_machine.specs.CallTests.{must_take, is_asked_in_checkpoint, is_asked_in_rollback}
 use Rattle.kt_machine.specs.Values.{Act, Keep, closing}
 use Rattle.kt_machine.specs.SeenActs.{seen_acts, seen_acts_asked}
-use Rattle.kt_system.specs.ShownActs.{acts_going_on, acts_carried_out}
+use Rattle.kt_manager.specs.ShownActs.{acts_going_on, acts_carried_out}
 
 -- who is ready is in a rollback, by its part
 pub ready_part : (x : ProcessState) (y : SeenProcess) → IsSeenAs x y → is_ready x.side ≡ y.part.is_rollback

@@ -3,8 +3,6 @@ use Rattle.std.specs.Prelude.{◌≡◌, ◌<◌, ◌==◌, ℕ, Option, Some, N
 use Rattle.kt_base.specs.declared.words.Kind.{Kind}
 use Rattle.kt_base.specs.declared.words.Kind.TheVariants.{Checkpoint, Rollback}
 use Rattle.kt_spacetime.specs.declared.event.Event.TheVariants.{Took, Ready, Unwilling, Began}
-use Rattle.kt_base.specs.declared.words.Verb.{Verb}
-use Rattle.kt_base.specs.declared.words.Verb.TheVariants as verb
 use Rattle.kt_tables.specs.Peers.{IsCohort}
 use Rattle.kt_process.specs.Shown.{goes_on, IsSeenAs}
 use Rattle.kt_spacetime.specs.declared.event.Event.{Event}
@@ -22,6 +20,7 @@ use Rattle.kt_process.specs.declared.actions.Action.{Action}
 use Rattle.kt_process.specs.declared.actions.Action.TheVariants.{Nothing, Refuse, Join, Reply, Settle}
 use Rattle.kt_meaning.specs.Past.{at_one}
 use Rattle.kt_process.specs.ProcessStates.{inst_of}
+use Rattle.kt_manager.specs.Turns.{begin_verb}
 use Rattle.kt_system.specs.Systems.{Whole, state_of}
 
 -- its processes, its lists of parcels and its log are those of a state of the machine
@@ -115,11 +114,6 @@ JoinsAs w v p test label (Settle commit tell) = Unit {0}
 -- instance k begins
 abbrev pub with_instance : Seen → ℕ → ℕ → Kind → Seen
 with_instance v p k kind = record v { log = v.log ++ Began p k kind ∷ []; begun = k }
-
--- the command that begins an instance of a kind
-abbrev pub begin_verb : Kind → Verb
-begin_verb Checkpoint = verb.Checkpoint
-begin_verb Rollback = verb.Rollback
 
 -- what follows from a command to begin an instance, and from an ask to take part in one
 abbrev pub begun_as : Seen → ℕ → ℕ → Kind → (ℕ → Bool) → (ℕ → ℕ) → Action → Seen

@@ -1,7 +1,7 @@
 //! Steps of a node that is bytes.
 
 ghost use Rattle.std.specs.Prelude.{◌≡◌, ◌≤◌, ◌-◌, ◌^◌, max, true, IfOk, IfErr, IsErrOf};
-ghost use Rattle.kt_node.specs.Nodes.{NodeState};
+ghost use Rattle.kt_manager.specs.Nodes.{NodeState};
 ghost use Rattle.kt_node.specs.Faults.{fault_at, wants_memory};
 ghost use Rattle.kt_node.specs.Links.{IsMetAs, IsParcelRefusedAs, IsStep, IsUntaken, ShowsLinks};
 ghost use Rattle.kt_node.specs.Looks.{clock_of, input_of, meeting_at};

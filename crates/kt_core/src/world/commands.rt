@@ -8,7 +8,7 @@ ghost use Rattle.kt_machine.specs.Seen.{Seen};
 ghost use Rattle.kt_machine.specs.Transition.{transition};
 ghost use Rattle.kt_system.specs.Systems.{state_of, IsSameSystem, LogGrows};
 ghost use Rattle.kt_system.specs.Shown.{ShowsState};
-ghost use Rattle.kt_system.specs.ShownActs.{acts_shown};
+ghost use Rattle.kt_manager.specs.ShownActs.{acts_shown};
 ghost use Rattle.kt_system.specs.Tallies.{TalliesPut};
 ghost use Rattle.kt_machine.specs.SeenActs.{seen_acts};
 ghost use Rattle.kt_promises.specs.Steps.{protocol_step};

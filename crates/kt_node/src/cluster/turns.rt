@@ -2,11 +2,11 @@
 
 ghost use Rattle.std.specs.Prelude.{◌≡◌, ◌≤◌, ◌<◌, ◌+◌, ◌++◌, ◌==◌, ◌&&◌, if◌then◌else◌, ℕ, [], List, map, length, vec_len, vec_capacity, slice_index_or, slice_set, IfOk, IfSome, IfNone, OnOk, OnErr};
 ghost use Rattle.kt_protocol.specs.States.{Take};
-ghost use Rattle.kt_node.specs.Nodes.{NodeState};
+ghost use Rattle.kt_manager.specs.Nodes.{NodeState};
 ghost use Rattle.kt_node.specs.Clocks.{envelope, clocked_row, source_of};
 ghost use Rattle.kt_machine.specs.Acts.{stepper};
 ghost use Rattle.kt_node.specs.Managers.{ShowsNode};
-ghost use Rattle.kt_node.specs.Effects.{put_to, rows_told};
+ghost use Rattle.kt_manager.specs.Effects.{put_to};
 ghost use Rattle.kt_node.specs.Links.{NodeLinks, IsSameNode};
 ghost use Rattle.kt_node.specs.Clusters.{link, step_of, IsFront, IsTurn, IsSpeakable, coming, IsRefusedIn, IsSpent, IsSpentAs};
 
@@ -41,24 +41,21 @@ pub(super) fn carry_out(
         ++ (if u == p then map (envelope output.now.clock) (put_to output.now.effects.parcels v)
         else []) }
     ensures told { rows.new.items ≡ rows.old.items
-        ++ map (clocked_row p output.now.clock) (rows_told output.now.effects.rows) }
+        ++ map (clocked_row p output.now.clock) output.now.effects.rows }
 {
     put(on_way, p, output);
     let effects = &output.effects;
-    tell(rows, p, output.clock, &effects.rows);
+    tell(rows, p, output.clock, effects.rows());
 }
 
 /// Tells the rows of a process's step, in room made before.
-fn tell(rows: &mut Vec<ClockedRow>, p: ProcNo, clock: u64, told: &[Option<NamedEvent>])
+fn tell(rows: &mut Vec<ClockedRow>, p: ProcNo, clock: u64, told: &[NamedEvent])
     requires { vec_len rows.old + length told.now ≤ vec_capacity rows.old }
-    ensures { rows.new.items ≡ rows.old.items ++ map (clocked_row p clock) (rows_told told.now) }
+    ensures { rows.new.items ≡ rows.old.items ++ map (clocked_row p clock) told.now }
 {
-    for row in told {
-        if let Some(event) = row {
-            let event = *event;
-            let row = NamedRow { p, event };
-            rows.push_reserved(ClockedRow { clock, row });
-        }
+    for event in told {
+        let row = NamedRow { p, event: *event };
+        rows.push_reserved(ClockedRow { clock, row });
     }
 }
 
@@ -71,7 +68,7 @@ fn put(on_way: &mut Vec<OnWay>, p: ProcNo, output: &Output)
 {
     for number in 0..ProcNo::COUNT {
         let to = ProcNo::nth(number);
-        if let Some(parcel) = output.effects.parcels.to(to) {
+        if let Some(parcel) = output.effects.parcels().to(to) {
             on_way.push_reserved(OnWay {
                 from: p,
                 to,
@@ -127,14 +124,16 @@ fn take(
     ensures err { OnErr result (IsSameNode node.new node.old) }
     ensures left { OnErr result (on_way.new.items ≡ on_way.old.items) }
 {
+    let mut output = Output::new();
     if node.manager().holds_next(from) {
-        return Ok(node.take_held(from)?);
+        node.take_held(from, &mut output)?;
+        return Ok(output);
     }
     let Some(place) = front(on_way, from, at) else {
         return Err(ClusterFault::NothingToTake);
     };
     let first = on_way[place];
-    let output = node.take(alloc, from, able, first.clock, &first.parcel)?;
+    node.take(alloc, from, able, first.clock, &first.parcel, &mut output)?;
     on_way.remove(place);
     Ok(output)
 }
@@ -161,10 +160,20 @@ fn turn(
     ensures err { OnErr result (IsSameNode node.new node.old) }
     ensures left { OnErr result (on_way.new.items ≡ on_way.old.items) }
 {
+    let mut output = Output::new();
     match *next {
-        ClusterStep::Send { to, body, .. } => Ok(node.send(to, body)?),
-        ClusterStep::Begin { kind, able, .. } => Ok(node.begin(alloc, kind, able)?),
-        ClusterStep::Fail { .. } => Ok(node.fail()?),
+        ClusterStep::Send { to, body, .. } => {
+            node.send(to, body, &mut output)?;
+            Ok(output)
+        }
+        ClusterStep::Begin { kind, able, .. } => {
+            node.begin(alloc, kind, able, &mut output)?;
+            Ok(output)
+        }
+        ClusterStep::Fail { .. } => {
+            node.fail(&mut output)?;
+            Ok(output)
+        }
         ClusterStep::Take { at, from, able } => take(alloc, node, on_way, at, from, able),
     }
 }

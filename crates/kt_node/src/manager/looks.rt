@@ -1,8 +1,8 @@
 //! What a step needs of the object.
 
 ghost use Rattle.std.specs.Prelude.{◌≡◌, ◌<◌, ◌&&◌, ℤ, Bool, true, is_none};
-ghost use Rattle.kt_process.specs.ProcessStates.{inst_of};
-ghost use Rattle.kt_node.specs.Nodes.{NodeState, Send, Begin, Held, Comes};
+ghost use Rattle.kt_manager.specs.Nodes.{NodeState};
+ghost use Rattle.kt_node.specs.Inputs.{Send, Begin, Held, Comes};
 ghost use Rattle.kt_node.specs.NodeLooks.{asks_to_save, would_save};
 ghost use Rattle.kt_node.specs.Managers.{ShowsNode};
 ghost use Rattle.kt_node.specs.Faults.{stranger, parcel_fault, fault_at};
@@ -10,8 +10,8 @@ ghost use Rattle.kt_node.specs.Looks.{input_of, look_of};
 
 use super::Manager;
 use crate::inputs::Input;
-use crate::parcels::NodeParcel;
 use kt_base::{Kind, ProcNo};
+use kt_manager::NodeParcel;
 use kt_plan::Look;
 use kt_spacetime::Count;
 
@@ -52,20 +52,11 @@ impl Manager {
             result ≡ would_save y (input_of true input.now) }
     {
         match input {
-            Input::Begin(Kind::Checkpoint) => self.may_save(),
+            Input::Begin(Kind::Checkpoint) => self.core.may_save(),
             Input::Deliver { from, envelope } => self.saves_at(*from, &envelope.parcel),
             Input::Begin(Kind::Rollback) | Input::Send { .. } | Input::Fail | Input::Redeliver(_) =>
                 false,
         }
-    }
-
-    /// Whether it is in no instance, and its object is up.
-    fn may_save(&self) -> bool
-        ensures process { result ≡
-            (is_none (inst_of self.now.process.side) && self.now.process.up) }
-        ensures node { (y : NodeState) → ShowsNode self.now y → result ≡ (is_none y.inst && y.up) }
-    {
-        self.process.in_inst().is_none() && self.process.is_up()
     }
 
     /// Whether a parcel of a process makes it take a checkpoint, if its object can be saved.
@@ -78,11 +69,7 @@ impl Manager {
                 kind: Kind::Checkpoint,
                 label,
                 ..
-            } => {
-                from.index() < self.size
-                    && self.may_save()
-                    && self.process.joins_checkpoint(true, from, label)
-            }
+            } => from.index() < self.size() && self.core.saves_at(from, label),
             _ => false,
         }
     }
@@ -92,7 +79,7 @@ impl Manager {
         ensures within { result ≡ true → q < self.now.size }
         ensures other { (y : NodeState) → ShowsNode self.now y → result ≡ is_none (stranger y q) }
     {
-        q.index() < self.size && q.get() != self.me.get()
+        q.index() < self.size() && q.get() != self.me().get()
     }
 
     /// Whether it may send to a process.
@@ -100,8 +87,8 @@ impl Manager {
         ensures { (y : NodeState) (body : ℤ) → ShowsNode self.now y →
             result ≡ is_none (fault_at y (Send to body)) }
     {
-        let is_spent = self.process.is_up() && self.process.is_spent();
-        self.is_other(to) && self.inst.is_none() && !is_spent
+        let is_spent = self.core.is_up() && self.core.process().is_spent();
+        self.is_other(to) && self.core.in_inst().is_none() && !is_spent
     }
 
     /// Whether a count is left for an instance that it begins.
@@ -117,7 +104,7 @@ impl Manager {
         ensures { (y : NodeState) → ShowsNode self.now y →
             result ≡ is_none (fault_at y (Held from)) }
     {
-        self.is_other(from) && !self.is_in_rollback() && self.first_held(from).is_some()
+        self.is_other(from) && !self.is_in_rollback() && self.holds_first(from)
     }
 
     /// Whether it may take a parcel of a process.
@@ -135,8 +122,8 @@ impl Manager {
     {
         match parcel {
             NodeParcel::Ask { inst, .. } => {
-                inst.initiator.index() < self.size
-                    && (inst.initiator.get() != self.me.get() || self.is_in(inst))
+                inst.initiator.index() < self.size()
+                    && (inst.initiator.get() != self.me().get() || self.core.is_in(inst))
             }
             _ => true,
         }

@@ -1,7 +1,8 @@
 //! Any parcel.
 
-ghost use Rattle.std.specs.Prelude.{◌≡◌, true, IfOk, OnErr, IsErrOf};
-ghost use Rattle.kt_node.specs.Nodes.{NodeState, Comes};
+ghost use Rattle.std.specs.Prelude.{◌≡◌, true, OnOk, OnErr, IsErrOf};
+ghost use Rattle.kt_manager.specs.Nodes.{NodeState};
+ghost use Rattle.kt_node.specs.Inputs.{Comes};
 ghost use Rattle.kt_node.specs.NodeSteps.{node_after};
 ghost use Rattle.kt_node.specs.Managers.{ShowsNode, IsSameManager};
 ghost use Rattle.kt_node.specs.Effects.{IsDone};
@@ -10,11 +11,9 @@ ghost use Rattle.kt_node.specs.Faults.{fault_at, wants_memory, IsRefusedAs};
 ghost use Rattle.kt_node.specs.declared.faults.ManagerFault.TheVariants as fault;
 
 use super::Manager;
-use super::instances::Ask;
-use crate::effects::Effects;
 use crate::faults::ManagerFault;
-use crate::parcels::NodeParcel;
 use kt_base::ProcNo;
+use kt_manager::{Ask, Effects, NodeParcel};
 use std::alloc::Global;
 
 impl Manager {
@@ -25,15 +24,17 @@ impl Manager {
         from: ProcNo,
         able: bool,
         parcel: &NodeParcel,
-    ) -> Result<Effects, ManagerFault>
+        out: &mut Effects,
+    ) -> Result<(), ManagerFault>
         ensures done { (y : NodeState) → ShowsNode self.old y →
             IsSpoken y from able parcel.now →
-            IfOk result (λ e. IsDone self.new e (node_after y (Comes from able parcel.now))) }
+            OnOk result (IsDone self.new out.new (node_after y (Comes from able parcel.now))) }
         ensures refused { (y : NodeState) → ShowsNode self.old y →
             IsRefusedAs (fault_at y (Comes from able parcel.now)) result }
         ensures memory { (y : NodeState) → ShowsNode self.old y →
             IsErrOf result fault.Memory → wants_memory y (Comes from able parcel.now) ≡ true }
         ensures err { OnErr result (IsSameManager self.new self.old) }
+        ensures out { OnErr result (out.new ≡ out.old) }
     {
         self.meet(from)?;
         if !self.is_in_rollback() && self.holds(from) {
@@ -43,12 +44,18 @@ impl Manager {
             return Err(ManagerFault::NotBegun);
         }
         match *parcel {
-            NodeParcel::App { label, body } => Ok(self.take_message(from, label, body)?),
+            NodeParcel::App { label, body } => Ok(self.take_message(from, label, body, out)?),
             NodeParcel::Ask { inst, kind, label } => {
-                Ok(self.take_ask(alloc, from, &Ask { inst, kind, label }, able)?)
+                Ok(self.take_ask(alloc, from, &Ask { inst, kind, label }, able, out)?)
             }
-            NodeParcel::Reply { inst, willing } => Ok(self.take_reply(from, &inst, willing)?),
-            NodeParcel::Decide { inst, commit } => Ok(self.take_decision(from, &inst, commit)?),
+            NodeParcel::Reply { inst, willing } => {
+                self.take_reply(from, &inst, willing, out);
+                Ok(())
+            }
+            NodeParcel::Decide { inst, commit } => {
+                self.take_decision(from, &inst, commit, out);
+                Ok(())
+            }
         }
     }
 }

@@ -15,8 +15,9 @@ ghost use Rattle.kt_machine.specs.Transition.{transition, seen_ask};
 ghost use Rattle.kt_meaning.specs.Past.{is_rollback_kind};
 ghost use Rattle.kt_process.specs.ProcessStates.{is_ready};
 ghost use Rattle.kt_machine.specs.SeenActs.{seen_acts, seen_acts_asked};
-ghost use Rattle.kt_system.specs.Shown.{ShowsState, JoinsAs, with_instance, begun_as, answered_as, with_cause, begin_verb};
-ghost use Rattle.kt_system.specs.ShownActs.{acts_shown, acts_carried_out};
+ghost use Rattle.kt_system.specs.Shown.{ShowsState, JoinsAs, with_instance, begun_as, answered_as, with_cause};
+ghost use Rattle.kt_manager.specs.Turns.{begin_verb};
+ghost use Rattle.kt_manager.specs.ShownActs.{acts_shown, acts_carried_out};
 ghost use Rattle.kt_system.specs.Tallies.{TalliesPut, front};
 ghost use Rattle.kt_system.specs.Keeps.{CanStep, KeepsInPart, KeepsInStep};
 

@@ -13,7 +13,7 @@ ghost use Rattle.kt_machine.specs.SeenClosing.{seen_deciding, seen_closing};
 ghost use Rattle.kt_process.specs.Shown.{goes_on};
 ghost use Rattle.kt_machine.specs.Values.{closing};
 ghost use Rattle.kt_system.specs.Shown.{ShowsState, IsInside, lists_closed, joined_row, asking_and_settling};
-ghost use Rattle.kt_system.specs.ShownActs.{act_shown, acts_shown, acts_joining, acts_going_on};
+ghost use Rattle.kt_manager.specs.ShownActs.{act_shown, acts_shown, acts_joining, acts_going_on};
 ghost use Rattle.kt_system.specs.Tallies.{TalliesPut};
 ghost use Rattle.kt_system.specs.Keeps.{KeepsInPart};
 

@@ -12,7 +12,7 @@ ghost use Rattle.kt_machine.specs.SeenMessages.{seen_refusal, seen_arrival, seen
 ghost use Rattle.kt_machine.specs.Transition.{transition, is_seen_ready};
 ghost use Rattle.kt_machine.specs.SeenActs.{seen_acts, seen_acts_arriving};
 ghost use Rattle.kt_system.specs.Shown.{ShowsState, channel_without, held_without};
-ghost use Rattle.kt_system.specs.ShownActs.{acts_shown};
+ghost use Rattle.kt_manager.specs.ShownActs.{acts_shown};
 ghost use Rattle.kt_system.specs.Tallies.{TalliesPut, front};
 ghost use Rattle.kt_system.specs.Keeps.{CanStep, KeepsInPart, KeepsInStep};
 

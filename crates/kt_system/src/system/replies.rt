@@ -11,7 +11,7 @@ ghost use Rattle.kt_machine.specs.Seen.{Seen};
 ghost use Rattle.kt_process.specs.ProcessStates.{is_ready};
 ghost use Rattle.kt_machine.specs.SeenActs.{seen_acts, seen_acts_replied, seen_acts_decided, seen_acts_taking, seen_acts_taking_held};
 ghost use Rattle.kt_system.specs.Shown.{ShowsState, IsInside, gone_on, after_reply_taken, after_decision_taken};
-ghost use Rattle.kt_system.specs.ShownActs.{acts_shown, acts_gone_on};
+ghost use Rattle.kt_manager.specs.ShownActs.{acts_shown, acts_gone_on};
 ghost use Rattle.kt_system.specs.Tallies.{front, taken_off};
 ghost use Rattle.kt_system.specs.Keeps.{CanStep, KeepsInPart, KeepsInStep};
 

@@ -3,8 +3,8 @@ use Rattle.std.proofs.Common.{◌≡◌, ◌∙◌, ◌≤◌, ◌<◌, ◌+◌,
 use Rattle.std.proofs.lemmas.Bool.Decides.{nat_tests}
 use Rattle.kt_node.specs.declared.node.Envelope.{Envelope}
 use Rattle.kt_node.specs.declared.node.NodeFault.TheVariants as fault
-use Rattle.kt_node.specs.declared.parcels.NodeParcel.{NodeParcel}
-use Rattle.kt_node.specs.declared.parcels.NodeParcel.TheVariants.{App, Ask, Reply, Decide}
+use Rattle.kt_manager.specs.declared.parcels.NodeParcel.{NodeParcel}
+use Rattle.kt_manager.specs.declared.parcels.NodeParcel.TheVariants.{App, Ask, Reply, Decide}
 use Rattle.kt_node.specs.Links.{NodeLinks}
 use Rattle.kt_node.specs.Meetings.{is_far, is_far_message, is_leap, is_stale, last_label, meeting_of, next_number}
 use Rattle.kt_node.proofs.Meets.{met_by}

@@ -1,5 +1,5 @@
 use Rattle.std.proofs.Common.{◌∙◌, length, arith, sym, ap}
-use Rattle.kt_node.specs.Effects.{put_to}
+use Rattle.kt_manager.specs.Effects.{put_to}
 use Rattle.kt_node.proofs.Counts.{one_put, none_put, count_more, count_same, set_size}
 use Rattle.kt_node.proofs.node.counted_each.Goals as goal
 use Rattle.kt_node.proofs.node.counted_each.Goals.{then-is_some, else-is_some}

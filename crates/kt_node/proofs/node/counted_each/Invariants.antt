@@ -1,6 +1,6 @@
 use Rattle.std.proofs.Common.{◌≡◌, ℕ, ◌+◌, ◌<◌, ◌≤◌, length}
 use Rattle.std.specs.Prelude.{slice_index}
-use Rattle.kt_node.specs.Effects.{put_to}
+use Rattle.kt_manager.specs.Effects.{put_to}
 use Rattle.kt_node.proofs.node.counted_each.Given as goal
 
 abbrev pub invariant-loop-number : goal.invariant-loop-number

@@ -1,6 +1,6 @@
 use Rattle.std.proofs.Common.{◌∙◌, refl}
 use Rattle.kt_promises.specs.Steps.{process_of_step, progress_after}
-use Rattle.kt_system.specs.ShownActs.{acts_shown}
+use Rattle.kt_manager.specs.ShownActs.{acts_shown}
 use Rattle.kt_machine.specs.Done.{done}
 use Rattle.kt_machine.specs.Values.{due}
 use Rattle.kt_run.specs.Objects.{first_of, rules_of}

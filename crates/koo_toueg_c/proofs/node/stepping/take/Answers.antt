@@ -1,6 +1,6 @@
 use Rattle.std.proofs.Common.{rules, ℤ, subst, w64}
 use Rattle.std.proofs.lemmas.Int.{to_z-of_z}
-use Rattle.kt_node.specs.Nodes.{Send}
+use Rattle.kt_node.specs.Inputs.{Send}
 use Rattle.kt_node.specs.Links.{IsStep}
 use Rattle.koo_toueg_c.proofs.node.stepping.take.Goals as goal
 

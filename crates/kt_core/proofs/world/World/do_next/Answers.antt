@@ -3,7 +3,7 @@ use Rattle.std.specs.Prelude.{List, slice_index_or}
 use Rattle.std.proofs.lemmas.Option.{slice_get_within}
 use Rattle.kt_plan.specs.Limits.{Planned}
 use Rattle.kt_plan.specs.declared.steps.Step.TheVariants.{Do}
-use Rattle.kt_system.specs.ShownActs.{acts_shown}
+use Rattle.kt_manager.specs.ShownActs.{acts_shown}
 use Rattle.kt_promises.specs.Progress.{Progress}
 use Rattle.kt_promises.specs.Steps.{enabled, progress_after}
 use Rattle.kt_promises.specs.Tallies.{tallies_after}

@@ -1,7 +1,7 @@
 use Rattle.std.proofs.Common.{◌≡◌, ℕ, None, true, length, ap, subst, sym, ◌∙◌}
 use Rattle.kt_plan.specs.Limits.{Planned}
 use Rattle.kt_plan.specs.declared.steps.Step.TheVariants.{Take}
-use Rattle.kt_system.specs.ShownActs.{acts_shown}
+use Rattle.kt_manager.specs.ShownActs.{acts_shown}
 use Rattle.kt_promises.specs.Progress.{Progress}
 use Rattle.kt_promises.specs.Steps.{enabled, progress_after}
 use Rattle.kt_promises.specs.Tallies.{tallies_after}

@@ -2,7 +2,7 @@ use Rattle.std.proofs.Common.{◌≡◌, OnOk, subst, sym}
 use Rattle.kt_plan.specs.declared.commands.Job.{Job}
 use Rattle.kt_machine.specs.Transition.{transition}
 use Rattle.kt_system.specs.Shown.{ShowsState}
-use Rattle.kt_system.specs.ShownActs.{acts_shown}
+use Rattle.kt_manager.specs.ShownActs.{acts_shown}
 use Rattle.kt_machine.specs.SeenActs.{seen_acts}
 use Rattle.kt_promises.specs.Steps.{protocol_step}
 use Rattle.kt_core.proofs.world.commands.do_job.Goals as goal

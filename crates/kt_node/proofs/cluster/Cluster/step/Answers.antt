@@ -7,7 +7,7 @@ use Rattle.kt_node.specs.declared.cluster.ClusterFault.{ClusterFault}
 use Rattle.kt_node.specs.declared.cluster.OnWay.{OnWay}
 use Rattle.kt_node.specs.declared.node.Output.{Output}
 use Rattle.kt_node.specs.Clusters.{ClusterState, link, step_of, net_after, coming_to, IsRefusedIn, IsRun, IsSpentIn, IsSpentAs, IsPutOut, HasNextNumbers}
-use Rattle.kt_node.specs.Effects.{put_to, rows_told}
+use Rattle.kt_manager.specs.Effects.{put_to}
 use Rattle.kt_node.proofs.Clustering.{as_many, not_unknown, refusal, same_err, spending, stays, step_acts, step_numbers, step_runs, step_told}
 use Rattle.kt_node.proofs.cluster.Cluster.step.Goals as goal
 
@@ -122,7 +122,7 @@ invariant_of-self-2 c =
     let out = c.in_ok-output.output in
     let others = c.in_ok-output.ensures.others in
     let put = λ (u v : ℕ) (l : v < 64). c.carry_out.ensures.links u v l ∙ ap (λ (q : ℕ). link after u v ++ (if u == q then map (envelope out.clock) (put_to out.effects.parcels v) else [])) c.at-at.ensures in
-    let told = c.carry_out.ensures.told ∙ ap (λ (q : ℕ). s.rows ++ map (clocked_row q out.clock) (rows_told out.effects.rows)) c.at-at.ensures in
+    let told = c.carry_out.ensures.told ∙ ap (λ (q : ℕ). s.rows ++ map (clocked_row q out.clock) out.effects.rows) c.at-at.ensures in
     record {
       few = omega (arith, as_many s x nodes after after s.rows few b others, c.self.invariant.few);
       steps = c.self.invariant.steps ++ x ∷ [];
@@ -144,7 +144,7 @@ returns-clause-done c = λ steps h.
     let out = c.in_ok-output.output in
     let others = c.in_ok-output.ensures.others in
     let put = λ (u v : ℕ) (l : v < 64). c.carry_out.ensures.links u v l ∙ ap (λ (q : ℕ). link after u v ++ (if u == q then map (envelope out.clock) (put_to out.effects.parcels v) else [])) c.at-at.ensures in
-    let told = c.carry_out.ensures.told ∙ ap (λ (q : ℕ). s.rows ++ map (clocked_row q out.clock) (rows_told out.effects.rows)) c.at-at.ensures in
+    let told = c.carry_out.ensures.told ∙ ap (λ (q : ℕ). s.rows ++ map (clocked_row q out.clock) out.effects.rows) c.at-at.ensures in
     step_runs s x nodes after c.carry_out.new.on_way.items c.carry_out.new.rows.items few b out others (λ n first. c.nets_are_runs.ensures.speaks_next n (λ p. first)) c.in_ok-output.ensures.done put told steps (subst (λ (v : ClusterState). IsRun v steps) (sym view) h)
 
 pub returns-clause-acts : goal.returns-clause-acts
@@ -162,7 +162,7 @@ returns-clause-acts c = λ steps h.
     let out = c.in_ok-output.output in
     let others = c.in_ok-output.ensures.others in
     let put = λ (u v : ℕ) (l : v < 64). c.carry_out.ensures.links u v l ∙ ap (λ (q : ℕ). link after u v ++ (if u == q then map (envelope out.clock) (put_to out.effects.parcels v) else [])) c.at-at.ensures in
-    let told = c.carry_out.ensures.told ∙ ap (λ (q : ℕ). s.rows ++ map (clocked_row q out.clock) (rows_told out.effects.rows)) c.at-at.ensures in
+    let told = c.carry_out.ensures.told ∙ ap (λ (q : ℕ). s.rows ++ map (clocked_row q out.clock) out.effects.rows) c.at-at.ensures in
     step_acts s x nodes after c.carry_out.new.on_way.items c.carry_out.new.rows.items few b out others (λ n first. c.nets_are_runs.ensures.speaks_next n (λ p. first)) c.in_ok-output.ensures.done put told steps (subst (λ (v : ClusterState). IsRun v steps) (sym view) h)
     ∙ ap (λ (v : ClusterState). clocked_acts (net_after v steps) x) view
 
@@ -208,8 +208,8 @@ returns-clause-rows c =
     let view : s ≡ c.args.self.now = same ∙ c.self.view_is in
     let x = step_of c.args.next.now in
     let out = c.in_ok-output.output in
-    let told = c.carry_out.ensures.told ∙ ap (λ (q : ℕ). s.rows ++ map (clocked_row q out.clock) (rows_told out.effects.rows)) c.at-at.ensures in
-    told ∙ ap (λ (v : ClusterState). v.rows ++ map (clocked_row (stepper x) out.clock) (rows_told out.effects.rows)) view
+    let told = c.carry_out.ensures.told ∙ ap (λ (q : ℕ). s.rows ++ map (clocked_row q out.clock) out.effects.rows) c.at-at.ensures in
+    told ∙ ap (λ (v : ClusterState). v.rows ++ map (clocked_row (stepper x) out.clock) out.effects.rows) view
 
 pub returns-clause-told : goal.returns-clause-told
 returns-clause-told c = λ steps h.
@@ -226,7 +226,7 @@ returns-clause-told c = λ steps h.
     let out = c.in_ok-output.output in
     let others = c.in_ok-output.ensures.others in
     let put = λ (u v : ℕ) (l : v < 64). c.carry_out.ensures.links u v l ∙ ap (λ (q : ℕ). link after u v ++ (if u == q then map (envelope out.clock) (put_to out.effects.parcels v) else [])) c.at-at.ensures in
-    let told = c.carry_out.ensures.told ∙ ap (λ (q : ℕ). s.rows ++ map (clocked_row q out.clock) (rows_told out.effects.rows)) c.at-at.ensures in
+    let told = c.carry_out.ensures.told ∙ ap (λ (q : ℕ). s.rows ++ map (clocked_row q out.clock) out.effects.rows) c.at-at.ensures in
     let after_x : ClusterState = record { nodes = nodes; on_way = c.carry_out.new.on_way.items; rows = c.carry_out.new.rows.items; first = inside.first } in
     subst (λ (v : ClusterState). IsPutOut (net_after v steps) (net_after after_x (steps ++ x ∷ [])) x out) view
     (step_told s x nodes after c.carry_out.new.on_way.items c.carry_out.new.rows.items few b out others (λ n first. c.nets_are_runs.ensures.speaks_next n (λ p. first)) c.in_ok-output.ensures.done put told steps (subst (λ (v : ClusterState). IsRun v steps) (sym view) h))
@@ -246,7 +246,7 @@ returns-clause-numbers c = λ k.
     let out = c.in_ok-output.output in
     let others = c.in_ok-output.ensures.others in
     let put = λ (u v : ℕ) (l : v < 64). c.carry_out.ensures.links u v l ∙ ap (λ (q : ℕ). link after u v ++ (if u == q then map (envelope out.clock) (put_to out.effects.parcels v) else [])) c.at-at.ensures in
-    let told = c.carry_out.ensures.told ∙ ap (λ (q : ℕ). s.rows ++ map (clocked_row q out.clock) (rows_told out.effects.rows)) c.at-at.ensures in
+    let told = c.carry_out.ensures.told ∙ ap (λ (q : ℕ). s.rows ++ map (clocked_row q out.clock) out.effects.rows) c.at-at.ensures in
     let reached = subst (λ (v : ClusterState). IsRun v c.self.invariant.steps) (sym same) c.self.invariant.reached in
     subst (λ (v : ClusterState). HasNextNumbers (slice_index_or v.nodes (stepper x) k) (slice_index_or nodes (stepper x) k) out) view
     (step_numbers s x nodes after c.carry_out.new.on_way.items c.carry_out.new.rows.items few b out others (λ n first. c.nets_are_runs.ensures.speaks_next n (λ p. first)) c.in_ok-output.ensures.done put told c.self.invariant.steps reached k)

@@ -1,7 +1,8 @@
 use Rattle.std.proofs.Common.{◌∙◌, ◌+◌, List, arith, rules, sym, ap, subst}
 use Rattle.kt_node.specs.declared.cluster.OnWay.{OnWay}
 use Rattle.kt_node.specs.Clusters.{link}
-use Rattle.kt_node.specs.Effects.{put_to}
+use Rattle.kt_manager.specs.declared.effects.Parcels.{Parcels}
+use Rattle.kt_manager.specs.Effects.{put_to}
 use Rattle.kt_node.proofs.OnWay.{HasPut, HasKept, put_one, put_none, one_of, none_of}
 use Rattle.kt_node.proofs.cluster.turns.put.Goals as goal
 use Rattle.kt_node.proofs.cluster.turns.put.Goals.{in-Some, in_default}
@@ -13,7 +14,7 @@ loop-number-preserved c =
     let clock = c.args.output.now.clock in
     let puts = put_to c.args.output.now.effects.parcels in
     let before = c.args.on_way.now.items in
-    let was = c.to.ensures ∙ ap puts c.nth-to.ensures in
+    let was = c.to.ensures ∙ (ap (λ (l : Parcels). put_to l c.nth-to.result) c.parcels.ensures ∙ ap puts c.nth-to.ensures) in
     let h = c.loop-number.invariant in
     elim c.match-to.branch [
       | in-Some w ↦

@@ -1,7 +1,7 @@
 use Rattle.std.proofs.Common.{◌+◌, ◌-◌, ◌≤◌, vec_len}
 use Rattle.std.specs.Prelude.{vec_capacity}
 use Rattle.kt_node.specs.Clusters.{link}
-use Rattle.kt_node.specs.Effects.{put_to}
+use Rattle.kt_manager.specs.Effects.{put_to}
 use Rattle.kt_node.proofs.OnWay.{HasPut, HasKept}
 use Rattle.kt_node.proofs.cluster.turns.put.Given as goal
 

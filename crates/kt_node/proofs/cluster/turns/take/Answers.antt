@@ -1,14 +1,14 @@
 use Rattle.std.proofs.Common.{◌≡◌, ◌∙◌, false, List, refl, sym, ap, subst}
 use Rattle.std.specs.Prelude.{◌&&◌, not, slice_index_or, Option}
 use Rattle.std.specs.List.{remove}
-use Rattle.kt_node.specs.Nodes.{Input, Held, Comes, is_in_rollback}
+use Rattle.kt_manager.specs.Nodes.{is_in_rollback}
+use Rattle.kt_node.specs.Inputs.{Input, Held, Comes}
 use Rattle.kt_node.specs.Nets.{has_some}
 use Rattle.kt_protocol.specs.States.{Take}
 use Rattle.kt_node.specs.Clocks.{clock_after, envelope, front_input}
 use Rattle.kt_node.specs.Clusters.{IsSpent, coming, link}
 use Rattle.kt_node.specs.Managers.{ManagerState, ShowsNode}
 use Rattle.kt_node.specs.declared.cluster.OnWay.{OnWay}
-use Rattle.kt_node.specs.declared.node.Output.{Output}
 use Rattle.kt_node.specs.Clusters.{IsFront, IsTaken}
 use Rattle.kt_node.proofs.OnWay.{front_comes}
 use Rattle.kt_node.proofs.Speaking.{is_spoken}
@@ -22,10 +22,10 @@ returns-then-holds_next-clause-done c = λ y h speak.
     let es = link c.args.on_way.now.items from c.args.at in
     let shown = subst (λ (m : ManagerState). ShowsNode m y) (sym c.manager.ensures) h in
     let comes = held_comes (not (is_in_rollback y) && has_some (y.held from)) from (front_input from c.args.able es) (sym (c.holds_next.ensures y shown) ∙ c.if-holds_next.true) in
-    own_turn c.args.node.now c.take_held.new.self c.args.on_way.now.items y _ (Held from) c.in_ok-take_held.field-0 comes (λ n es. refl) (λ es. refl) (c.in_ok-take_held.ensures.done y h (speak (Held from) comes))
+    own_turn c.args.node.now c.take_held.new.self c.args.on_way.now.items y _ (Held from) c.take_held.new.out comes (λ n es. refl) (λ es. refl) (c.in_ok-take_held.ensures.done y h (speak (Held from) comes))
 
-pub returns-in_err-output-clause-refused : goal.returns-in_err-output-clause-refused
-returns-in_err-output-clause-refused c = λ y h.
+pub returns-in_err-take-clause-refused : goal.returns-in_err-take-clause-refused
+returns-in_err-take-clause-refused c = λ y h.
     let from = c.args.from in
     let ways = c.args.on_way.now.items in
     let place = c.in-Some.place in
@@ -35,7 +35,7 @@ returns-in_err-output-clause-refused c = λ y h.
     let shown = subst (λ (m : ManagerState). ShowsNode m y) (sym c.manager.ensures) h in
     let held : (not (is_in_rollback y) && has_some (y.held from)) ≡ false = sym (c.holds_next.ensures y shown) ∙ c.if-holds_next.false in
     let comes = front_input_is (not (is_in_rollback y) && has_some (y.held from)) from c.args.able (link ways from c.args.at) (link (remove ways place) from c.args.at) (envelope x.clock x.parcel) held (front_comes ways from c.args.at place x front is) in
-    refused_taken y _ (Comes from c.args.able x.parcel) c.in_err-output.field-0.0 c.from_residual-in_err-output.result comes c.from_residual-in_err-output.ensures (c.in_err-output.ensures.refused y h)
+    refused_taken y _ (Comes from c.args.able x.parcel) c.in_err-take.field-0.0 c.from_residual-in_err-take.result comes c.from_residual-in_err-take.ensures (c.in_err-take.ensures.refused y h)
 
 pub returns-clause-done : goal.returns-clause-done
 returns-clause-done c = λ y h speak.
@@ -48,8 +48,8 @@ returns-clause-done c = λ y h speak.
     let shown = subst (λ (m : ManagerState). ShowsNode m y) (sym c.manager.ensures) h in
     let held : (not (is_in_rollback y) && has_some (y.held from)) ≡ false = sym (c.holds_next.ensures y shown) ∙ c.if-holds_next.false in
     let comes = front_input_is (not (is_in_rollback y) && has_some (y.held from)) from c.args.able (link ways from c.args.at) (link (remove ways place) from c.args.at) (envelope x.clock x.parcel) held (front_comes ways from c.args.at place x front is) in
-    let step = c.in_ok-output.ensures.done y h (is_spoken y from c.args.able x.parcel (speak (Comes from c.args.able x.parcel) comes)) in
-    front_turn c.args.node.now c.take.new.self ways c.remove.new.self.items y c.args.at from place c.args.able x c.in_ok-output.output front is held c.remove.ensures.items step
+    let step = c.in_ok-take.ensures.done y h (is_spoken y from c.args.able x.parcel (speak (Comes from c.args.able x.parcel) comes)) in
+    front_turn c.args.node.now c.take.new.self ways c.remove.new.self.items y c.args.at from place c.args.able x c.take.new.out front is held c.remove.ensures.items step
 
 pub returns-clause-refused : goal.returns-clause-refused
 returns-clause-refused c = λ y h.
@@ -62,10 +62,10 @@ returns-clause-refused c = λ y h.
     let shown = subst (λ (m : ManagerState). ShowsNode m y) (sym c.manager.ensures) h in
     let held : (not (is_in_rollback y) && has_some (y.held from)) ≡ false = sym (c.holds_next.ensures y shown) ∙ c.if-holds_next.false in
     let comes = front_input_is (not (is_in_rollback y) && has_some (y.held from)) from c.args.able (link ways from c.args.at) (link (remove ways place) from c.args.at) (envelope x.clock x.parcel) held (front_comes ways from c.args.at place x front is) in
-    subst (λ (o : Option Input). IsTaken y o) (sym comes) (c.in_ok-output.ensures.refused y h)
+    subst (λ (o : Option Input). IsTaken y o) (sym comes) (c.in_ok-take.ensures.refused y h)
 
-pub returns-in_err-output-clause-spent : goal.returns-in_err-output-clause-spent
-returns-in_err-output-clause-spent c = λ y h.
+pub returns-in_err-take-clause-spent : goal.returns-in_err-take-clause-spent
+returns-in_err-take-clause-spent c = λ y h.
     let from = c.args.from in
     let ways = c.args.on_way.now.items in
     let place = c.in-Some.place in
@@ -80,8 +80,8 @@ returns-in_err-output-clause-spent c = λ y h.
     let comes = front_input_is (not (is_in_rollback y) && has_some (y.held from)) from c.args.able es (link (remove ways place) from c.args.at) (envelope x.clock x.parcel) held first in
     let clock = c.args.node.now.clock in
     let both = is_spent clock x.clock (coming y (Take c.args.at from c.args.able) es) came es comes (ap (clock_after clock came) first) in
-    spent_as _ c.in_err-output.field-0.0 c.from_residual-in_err-output.result c.from_residual-in_err-output.ensures
-    (spent_of Output _ (IsSpent clock (coming y (Take c.args.at from c.args.able) es) es) c.in_err-output.field-0.0 c.in_err-output.ensures.spent both.0 both.1)
+    spent_as _ c.in_err-take.field-0.0 c.from_residual-in_err-take.result c.from_residual-in_err-take.ensures
+    (spent_of (Unit {0}) _ (IsSpent clock (coming y (Take c.args.at from c.args.able) es) es) c.in_err-take.field-0.0 c.in_err-take.ensures.spent both.0 both.1)
 
 pub returns-clause-spent : goal.returns-clause-spent
 returns-clause-spent c = λ y h.
@@ -99,4 +99,4 @@ returns-clause-spent c = λ y h.
     let comes = front_input_is (not (is_in_rollback y) && has_some (y.held from)) from c.args.able es (link (remove ways place) from c.args.at) (envelope x.clock x.parcel) held first in
     let clock = c.args.node.now.clock in
     let both = is_spent clock x.clock (coming y (Take c.args.at from c.args.able) es) came es comes (ap (clock_after clock came) first) in
-    not_spent _ (IsSpent clock (coming y (Take c.args.at from c.args.able) es) es) c.in_ok-output.output c.in_ok-output.ensures.spent both.1
+    not_spent _ (IsSpent clock (coming y (Take c.args.at from c.args.able) es) es) _ c.in_ok-take.ensures.spent both.1

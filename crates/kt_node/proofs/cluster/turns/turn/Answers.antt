@@ -6,7 +6,7 @@ use Rattle.std.specs.Prelude.{if◌then◌else◌, None}
 use Rattle.kt_meaning.specs.Past.{is_rollback_kind}
 use Rattle.kt_protocol.specs.States.{ProtocolStep}
 use Rattle.kt_protocol.specs.States as protocol
-use Rattle.kt_node.specs.Nodes.{Send, Begin}
+use Rattle.kt_node.specs.Inputs.{Send, Begin}
 use Rattle.kt_node.specs.Clusters.{step_of, IsTurn}
 use Rattle.kt_node.proofs.Turning.{own_turn}
 use Rattle.kt_node.proofs.cluster.turns.turn.Goals as goal
@@ -18,9 +18,9 @@ returns-in_ok-send-in-Send-clause-done c = λ y h speak.
     let is : step_of c.args.next.now ≡ x = ap step_of a.is in
     let ways = c.args.on_way.now.items in
     let comes = ap (λ b. if b then Some (Send a.to a.body) else None) (c.in_ok-send-in-Send.ensures.step y h) in
-    let done = subst (λ (b : ℤ). IsStep c.args.node.now c.send.new.self 0 y (Send a.to b) c.in_ok-send-in-Send.field-0) (to_z-of_z w64 a.body (search rules)) (c.in_ok-send-in-Send.ensures.done y h) in
-    subst (λ (z : ProtocolStep). IsTurn c.args.node.now c.send.new.self ways ways y z c.in_ok-send-in-Send.field-0) (sym is)
-    (own_turn c.args.node.now c.send.new.self ways y x (Send a.to a.body) c.in_ok-send-in-Send.field-0 comes (λ n es. refl) (λ es. refl) done)
+    let done = subst (λ (b : ℤ). IsStep c.args.node.now c.send.new.self 0 y (Send a.to b) c.send.new.out) (to_z-of_z w64 a.body (search rules)) (c.in_ok-send-in-Send.ensures.done y h) in
+    subst (λ (z : ProtocolStep). IsTurn c.args.node.now c.send.new.self ways ways y z c.send.new.out) (sym is)
+    (own_turn c.args.node.now c.send.new.self ways y x (Send a.to a.body) c.send.new.out comes (λ n es. refl) (λ es. refl) done)
 
 pub returns-in_ok-begin-in-Begin-clause-done : goal.returns-in_ok-begin-in-Begin-clause-done
 returns-in_ok-begin-in-Begin-clause-done c = λ y h speak.
@@ -29,5 +29,5 @@ returns-in_ok-begin-in-Begin-clause-done c = λ y h speak.
     let x : ProtocolStep = protocol.Begin a.at roll a.able in
     let is : step_of c.args.next.now ≡ x = ap step_of a.is in
     let ways = c.args.on_way.now.items in
-    subst (λ (z : ProtocolStep). IsTurn c.args.node.now c.begin.new.self ways ways y z c.in_ok-begin-in-Begin.field-0) (sym is)
-    (own_turn c.args.node.now c.begin.new.self ways y x (Begin roll a.able) c.in_ok-begin-in-Begin.field-0 refl (λ n es. refl) (λ es. refl) (c.in_ok-begin-in-Begin.ensures.done y h))
+    subst (λ (z : ProtocolStep). IsTurn c.args.node.now c.begin.new.self ways ways y z c.begin.new.out) (sym is)
+    (own_turn c.args.node.now c.begin.new.self ways y x (Begin roll a.able) c.begin.new.out refl (λ n es. refl) (λ es. refl) (c.in_ok-begin-in-Begin.ensures.done y h))

@@ -2,7 +2,8 @@ use Rattle.std.proofs.Common.{sym, subst}
 use Rattle.kt_process.specs.ProcessStates.{ProcessState}
 use Rattle.kt_process.specs.Shown.{IsSeenAs}
 use Rattle.kt_node.specs.Links.{NodeLinks}
-use Rattle.kt_node.specs.Managers.{ShowsNode, process_of}
+use Rattle.kt_node.specs.Managers.{ShowsNode}
+use Rattle.kt_manager.specs.Managers.{process_of}
 use Rattle.kt_node.proofs.Speaking.{sending_speaks}
 use Rattle.kt_node.proofs.node.Node.speaks.Goals as goal
 

@@ -1,7 +1,7 @@
 use Rattle.std.proofs.Common.{List, ◌++◌, take, sym, subst, rules}
 use Rattle.std.specs.List.{flat_map}
 use Rattle.kt_tables.specs.Calls.{Call}
-use Rattle.kt_system.specs.ShownActs.{act_shown, acts_shown}
+use Rattle.kt_manager.specs.ShownActs.{act_shown, acts_shown}
 use Rattle.kt_node.specs.NodeHistories.{call_of_act}
 use Rattle.kt_node.specs.Reaches.{HasReaches}
 use Rattle.kt_node.proofs.Reaching.{act_next, has_both}

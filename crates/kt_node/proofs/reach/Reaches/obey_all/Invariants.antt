@@ -2,7 +2,7 @@ use Rattle.std.proofs.Common.{List, ◌++◌, take}
 use Rattle.std.specs.List.{flat_map}
 use Rattle.kt_tables.specs.Calls.{Call}
 use Rattle.kt_node.specs.NodeHistories.{call_of_act}
-use Rattle.kt_system.specs.ShownActs.{acts_shown}
+use Rattle.kt_manager.specs.ShownActs.{acts_shown}
 use Rattle.kt_node.specs.Reaches.{HasReaches}
 use Rattle.kt_node.proofs.reach.Reaches.obey_all.Given as goal
 

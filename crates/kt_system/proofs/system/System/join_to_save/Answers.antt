@@ -16,7 +16,7 @@ use Rattle.kt_system.proofs.Commands.{heard_by, hear_shows, hear_joins, hears_in
 use Rattle.kt_base.specs.declared.words.Kind.TheVariants as kind
 use Rattle.kt_process.specs.Turns.{joins_by}
 use Rattle.kt_system.proofs.Fits.{asker_room, hears_fit}
-use Rattle.kt_system.specs.ShownActs.{acts_carried_out}
+use Rattle.kt_manager.specs.ShownActs.{acts_carried_out}
 use Rattle.kt_system.proofs.Acting.{hear_acts_save}
 use Rattle.kt_system.proofs.system.System.join_to_save.Goals as goal
 

@@ -5,7 +5,7 @@ use Rattle.kt_meaning.specs.Past.{is_rollback_kind}
 use Rattle.kt_machine.specs.Transition.{seen_ask}
 use Rattle.kt_system.specs.Shown.{ShowsState}
 use Rattle.kt_machine.specs.SeenActs.{seen_acts_asked}
-use Rattle.kt_system.specs.ShownActs.{acts_shown}
+use Rattle.kt_manager.specs.ShownActs.{acts_shown}
 use Rattle.kt_system.proofs.system.System.take_ask.Goals as goal
 
 pub returns-in-Rollback-clause-shows : goal.returns-in-Rollback-clause-shows

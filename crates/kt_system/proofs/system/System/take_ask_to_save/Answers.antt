@@ -7,7 +7,7 @@ use Rattle.kt_process.specs.Shown.{HearsAs, asked_by, label_by}
 use Rattle.kt_machine.specs.Seen.{Seen, SeenLists}
 use Rattle.kt_system.specs.Systems.{state_of}
 use Rattle.kt_system.specs.Shown.{ShowsState}
-use Rattle.kt_system.specs.ShownActs.{acts_carried_out}
+use Rattle.kt_manager.specs.ShownActs.{acts_carried_out}
 use Rattle.kt_system.specs.Tallies.{front}
 use Rattle.kt_system.proofs.Acting.{hear_acts_save}
 use Rattle.kt_system.proofs.Commands.{heard_by, hear_shows, hear_joins, heard_channel, asked_by_front, hears_checkpoint}

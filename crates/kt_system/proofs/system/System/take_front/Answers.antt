@@ -11,7 +11,7 @@ use Rattle.std.specs.Int.{w64}
 use Rattle.std.proofs.Common.{[], rules}
 use Rattle.std.proofs.lemmas.Int.{to_z-of_z}
 use Rattle.kt_machine.specs.SeenActs.{seen_acts_taking, seen_acts_arriving}
-use Rattle.kt_system.specs.ShownActs.{acts_shown}
+use Rattle.kt_manager.specs.ShownActs.{acts_shown}
 use Rattle.kt_system.proofs.system.System.take_front.Goals as goal
 
 pub returns-in-Ask-clause-shows : goal.returns-in-Ask-clause-shows

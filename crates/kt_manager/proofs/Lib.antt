@@ -1,0 +1,14 @@
+pub mod Borders
+pub mod InTurn
+pub mod Writing
+pub mod Lists
+pub mod Sides
+pub mod Processes
+pub mod Asks
+pub mod Telling
+pub mod Settling
+pub mod Beginning
+pub mod Hearing
+pub mod Replying
+pub mod Messages
+pub mod Looking

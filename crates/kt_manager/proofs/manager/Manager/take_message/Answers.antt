@@ -1,0 +1,49 @@
+use Rattle.std.proofs.Common.{◌∙◌, ℤ, ap, sym}
+use Rattle.std.specs.Int.{w64}
+use Rattle.std.proofs.lemmas.Int.{to_z-of_z}
+use Rattle.kt_manager.specs.declared.parcels.NodeParcel.TheVariants.{App}
+use Rattle.kt_manager.specs.Messages.{has_some}
+use Rattle.kt_manager.specs.Inboxes.{held_of}
+use Rattle.kt_manager.specs.Managers.{ManagerState}
+use Rattle.kt_manager.specs.NodeMessages.{receiving, arriving, holding}
+use Rattle.kt_manager.proofs.Lists.{Lists}
+use Rattle.kt_manager.proofs.Processes.{shows_inside}
+use Rattle.kt_manager.proofs.Messages.{dropping, shows_holding, shows_roomy, speaks_arriving, done_holding, done_arriving, done_down, done_as, done_said}
+use Rattle.kt_manager.proofs.manager.Manager.take_message.Goals as goal
+
+pub returns-then-is_in_rollback-clause-done : goal.returns-then-is_in_rollback-clause-done
+returns-then-is_in_rollback-clause-done c = λ y h speaks.
+    let i = shows_inside _ _ y c.self.view_is h in
+    let from = c.args.from in
+    let label = c.args.label in
+    let body = c.args.body in
+    let roomy = shows_roomy _ c.make_room.new.self y i c.make_room.ensures.kept c.make_room.ensures.held in
+    done_holding _ _ y from label body (sym (c.is_in_rollback.ensures.node y h) ∙ c.if-is_in_rollback.true)
+    (done_as _ _ (λ (b : ℤ). holding y from (App label b)) _ _ (to_z-of_z w64 body c.ranges.body)
+    (c.clear.ensures.done _ _ (shows_holding _ c.hold.new.self y from label _ roomy c.hold.ensures.held c.hold.ensures.kept)))
+
+pub receive-requires-clause-first : goal.receive-requires-clause-first
+receive-requires-clause-first c =
+    ap (λ (f : Lists). has_some (f c.args.from)) c.make_room-2.ensures.held
+    ∙ (ap (λ (m : ManagerState). has_some (held_of m.inbox c.args.from)) c.self.view_is ∙ c.requires.first (sym c.is_in_rollback.ensures.state ∙ c.if-is_in_rollback.false))
+
+pub returns-then-not-is_up-clause-done : goal.returns-then-not-is_up-clause-done
+returns-then-not-is_up-clause-done c = λ y h speaks.
+    let i = shows_inside _ _ y c.self.view_is h in
+    let from = c.args.from in
+    let label = c.args.label in
+    let body = c.args.body in
+    let down = sym i.process.up ∙ (sym c.is_up.ensures ∙ c.if-not-is_up.true) in
+    done_arriving _ _ y from label body (sym (c.is_in_rollback.ensures.node y h) ∙ c.if-is_in_rollback.false)
+    (done_down _ _ y (receiving y from label body) (dropping y from label) down (c.tell.ensures.done c.args.self.now y h))
+
+pub returns-clause-done : goal.returns-clause-done
+returns-clause-done c = λ y h speaks.
+    let i = shows_inside _ _ y c.self.view_is h in
+    let from = c.args.from in
+    let label = c.args.label in
+    let body = c.args.body in
+    let over = sym (c.is_in_rollback.ensures.node y h) ∙ c.if-is_in_rollback.false in
+    let roomy = shows_roomy _ c.make_room-2.new.self y i c.make_room-2.ensures.kept c.make_room-2.ensures.held in
+    done_arriving _ _ y from label body over
+    (done_said _ _ (λ (b : ℤ). arriving y from label b) _ _ (to_z-of_z w64 body c.ranges.body) (c.receive.ensures y roomy) (speaks_arriving y from label body over speaks))

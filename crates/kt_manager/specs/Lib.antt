@@ -1,0 +1,14 @@
+pub mod ShownActs
+pub mod Nodes
+pub mod NodeMessages
+pub mod NodeJoining
+pub mod NodeClosing
+pub mod NodeSteps
+pub mod Messages
+pub mod Inboxes
+pub mod Managers
+pub mod ManagerParts
+pub mod OwnParts
+pub mod Told
+pub mod Effects
+pub mod Turns

@@ -1,7 +1,0 @@
-use Rattle.std.proofs.Common.{◌<◌, ◌≤◌, ℕ, length}
-use Rattle.kt_fifo.specs.Channels.{channel}
-use Rattle.kt_process.specs.Shown.{mark_of}
-use Rattle.kt_node.proofs.manager.own_part.are_within.Given as goal
-
-abbrev pub invariant-loop-number : goal.invariant-loop-number
-invariant-loop-number l = (q : ℕ) → q < l.number → mark_of l.marks q ≤ length (channel l.lists q l.to)
