@@ -3,6 +3,7 @@
 use crate::cases::{Case, next_case};
 use crate::certified::show_certified;
 use crate::faults::{refused, value_of};
+use crate::inboxes::show_inboxes;
 use crate::meetings::show_meetings;
 use crate::merging::{show_merge_fault, show_merged};
 use crate::node_texts::show_node_texts;
@@ -65,6 +66,7 @@ fn show_case<R: Print + AllocGlobal>(
         "node-steps" => show_run(rt, case),
         "node-texts" => show_node_texts(rt, case),
         "tables" => show_tables(rt, case),
+        "inboxes" => show_inboxes(rt, case),
         "plays" => show_plays(rt, case),
         _ => refused(),
     }

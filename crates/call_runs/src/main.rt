@@ -10,6 +10,7 @@ mod failing;
 mod faults;
 mod files;
 mod handlers;
+mod inboxes;
 mod limits;
 mod long_logs;
 mod meetings;

@@ -5,7 +5,7 @@ use crate::faults::{refused, value_of};
 use crate::limits::label_of;
 use crate::node_steps::process_of;
 use kt_base::ProcNo;
-use kt_node::{Envelope, Input, Node, NodeParcel, Taken};
+use kt_node::{Envelope, Input, Node, NodeParcel, Output, Taken};
 use kt_plan::Look;
 use kt_spacetime::Count;
 use std::io;
@@ -36,8 +36,9 @@ fn show_message<R: Print + AllocGlobal>(rt: &R, node: &mut Node, line: &str) -> 
     };
     let from = ProcNo::nth(0);
     let is_idle = node.look(&Input::Deliver { from, envelope }) == Look::Idle;
-    match node.deliver(rt.alloc(), from, true, &envelope) {
-        Ok(Taken::Step(output)) => println!(rt; "  {line}: idle {is_idle}, clock {}", output.clock),
+    let mut output = Output::new();
+    match node.deliver(rt.alloc(), from, true, &envelope, &mut output) {
+        Ok(Taken::Step) => println!(rt; "  {line}: idle {is_idle}, clock {}", output.clock),
         Ok(Taken::Again) => println!(rt; "  {line}: idle {is_idle}, it came before"),
         Err(fault) => println!(rt; "  {line}: idle {is_idle}, {fault}"),
     }

@@ -45,6 +45,26 @@ pub(crate) fn text_of(alloc: Global, node: &Node) -> io::Result<Vec<u8>> {
     Ok(text)
 }
 
+// A node makes the step at what comes to it.
+fn step_at(
+    alloc: Global,
+    node: &mut Node,
+    input: &Input,
+    able: bool,
+    output: &mut Output,
+) -> Result<Taken, NodeFault> {
+    match input {
+        Input::Send { to, body } => node.send(*to, *body, output)?,
+        Input::Begin(kind) => node.begin(alloc, *kind, able, output)?,
+        Input::Fail => node.fail(output)?,
+        Input::Redeliver(from) => node.redeliver(*from, output)?,
+        Input::Deliver { from, envelope } => {
+            return node.deliver(alloc, *from, able, envelope, output);
+        }
+    }
+    Ok(Taken::Step)
+}
+
 impl OnWay {
     // Whether it is on its way from one process to another one.
     fn is_between(&self, from: ProcNo, to: ProcNo) -> bool {
@@ -110,8 +130,11 @@ impl Net {
         }
     }
 
-    // The front of a link was taken.
-    fn remove_front(&mut self, from: ProcNo, to: ProcNo) {
+    // A process made the step at what comes to it: where this is a parcel, the front of its link was taken.
+    fn remove_taken(&mut self, to: ProcNo, input: &Input) {
+        let Input::Deliver { from, .. } = *input else {
+            return;
+        };
         if let Some(place) = self.on_way.iter().position(|x| x.is_between(from, to)) {
             self.on_way.remove(place);
         }
@@ -128,27 +151,14 @@ impl Net {
         let Some(node) = self.nodes.get_mut(at.index()) else {
             return refused();
         };
-        let made = match input {
-            Input::Send { to, body } => node.send(*to, *body),
-            Input::Begin(kind) => node.begin(alloc, *kind, able),
-            Input::Fail => node.fail(),
-            Input::Redeliver(from) => node.redeliver(*from),
-            Input::Deliver { from, envelope } => {
-                match node.deliver(alloc, *from, able, envelope) {
-                    Ok(Taken::Step(output)) => {
-                        self.remove_front(*from, at);
-                        Ok(output)
-                    }
-                    Ok(Taken::Again) => return Ok(Done::Again),
-                    Err(fault) => Err(fault),
-                }
-            }
-        };
-        match made {
-            Ok(output) => {
+        let mut output = Output::new();
+        match step_at(alloc, node, input, able, &mut output) {
+            Ok(Taken::Step) => {
+                self.remove_taken(at, input);
                 self.renew(alloc, at)?;
                 self.put(at, &output)
             }
+            Ok(Taken::Again) => Ok(Done::Again),
             Err(fault) => Ok(Done::Refused(fault)),
         }
     }
@@ -171,7 +181,7 @@ impl Net {
             }
         }
         let clock = output.clock;
-        for event in output.effects.rows.iter().flatten() {
+        for event in output.effects.rows() {
             let event = *event;
             let row = NamedRow { p: from, event };
             self.rows.push(ClockedRow { clock, row })?;

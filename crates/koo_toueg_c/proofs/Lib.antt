@@ -1,4 +1,5 @@
 mod Refusals
 mod Exactly
 mod Loaded
+mod Told
 pub mod PartReaders

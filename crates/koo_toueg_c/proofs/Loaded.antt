@@ -18,14 +18,13 @@ use Rattle.kt_node.specs.declared.node.NodeFault.TheVariants as fault
 use Rattle.kt_node.specs.declared.node.Output.{Output}
 use Rattle.kt_node.specs.declared.node.Taken.{Taken}
 use Rattle.kt_node.specs.declared.node.Taken.TheVariants.{Step, Again}
-use Rattle.kt_fifo.specs.Channels.{channel}
 use Rattle.kt_machine.specs.Seen.{SeenPart}
 use Rattle.kt_process.specs.ProcessStates.{HasMarks}
 use Rattle.kt_process.specs.Shown.{part_shown}
 use Rattle.kt_process.specs.declared.side.Side.{Side}
 use Rattle.kt_process.specs.declared.side.Side.TheVariants as side
-use Rattle.kt_node.specs.Erasing.{erased_parcel}
-use Rattle.kt_node.specs.Managers.{no_name}
+use Rattle.kt_manager.specs.Inboxes.{kept_of}
+use Rattle.kt_manager.specs.Managers.{as_parcel, as_parcels}
 use Rattle.kt_manager.specs.Nodes.{NodeLists}
 use Rattle.kt_manager.specs.OwnParts.{HasOwnMarks}
 use Rattle.kt_node.proofs.OwnMarks.{marks_after, own_shown}
@@ -54,12 +53,12 @@ pub meeting_same : (w v : NodeLinks) (x : Input) → IsSameState w v → meeting
 meeting_same w v (Send to body) same = refl
 meeting_same w v (Begin kind) same = refl
 meeting_same w v Fail same = refl
-meeting_same w v (Redeliver q) same = λ i. by_labels (label_of (slice_get (same.held i q) 0)) (slice_index (same.reaches i).live.received q)
+meeting_same w v (Redeliver q) same = λ i. by_labels (label_of (slice_get (as_parcels (same.held i) q) 0)) (slice_index (same.reaches i).live.received q)
   where
     by_labels : ℕ → ℕ → Result Bool NodeFault
     by_labels first most = if not (first == 0) && nat_le first most then Err fault.Stale else Ok true
 meeting_same w v (Deliver q e) same =
-    λ i. by_parts (same.me i) (slice_index (same.taken i) q + 1) (same.clock i) (max (slice_index (same.reaches i).live.received q) (label_of (slice_get (same.held i q) (length (same.held i q) - 1)))) (same.used i)
+    λ i. by_parts (same.me i) (slice_index (same.taken i) q + 1) (same.clock i) (max (slice_index (same.reaches i).live.received q) (label_of (slice_get (as_parcels (same.held i) q) (length (as_parcels (same.held i) q) - 1)))) (same.used i)
   where
     by_parts : (me next clock last used : ℕ) → Result Bool NodeFault
     by_parts me next clock last used =
@@ -99,11 +98,12 @@ no_marks (Some (side.Rollback s)) n q h b = refl
 own_marks : (v : NodeLinks) (y : NodeState) → IsOwn v → ShowsNode v.manager y → HasOwnMarks y
 own_marks v y own h q =
     let w = v.manager in
+    let n = w.process.tables.processes in
     let marks : (part_shown w.process.side).marks q ≡ y.part.marks q = ap (λ (p : SeenPart). p.marks q) h.process.part in
-    let kept : length (channel w.kept q w.me) ≡ length (y.kept q) = sym (length-map (channel w.kept q w.me) (erased_parcel no_name)) ∙ ap (λ (l : NodeLists). length (l q)) h.holds.kept in
-    elim (cases_lt q w.size) [
+    let kept : length (kept_of w.inbox q) ≡ length (y.kept q) = sym (length-map (kept_of w.inbox q) as_parcel) ∙ ap (λ (l : NodeLists). length (l q)) h.holds.kept in
+    elim (cases_lt q n) [
       | inl b ↦ (let k = own.part.marks q b in omega (arith, marks, kept, k))
-      | inr b ↦ (let k = no_marks w.process.side w.size q (subst (λ (n : ℕ). HasMarks n w.process.side) own.sound.manager.tables own.sound.process.marked) b in omega (arith, marks, k))
+      | inr b ↦ (let k = no_marks w.process.side n q own.sound.process.marked b in omega (arith, marks, k))
     ]
 
 -- a step of the node that was loaded is a step of its bytes
@@ -141,10 +141,10 @@ pub some_is : {A : Type 0} (x y : A) → Some x ≡ Some y → x ≡ y
 some_is x y e = cc
 
 -- an input that made a step was met as the next one, and one that came before as such
-met_step : (met : Result Bool NodeFault) (out : Output) → IsMetAs met (Ok (Step out)) → met ≡ Ok true
-met_step (Ok true) out h = refl
-met_step (Ok false) out h = absurd (cc (h))
-met_step (Err f) out h = absurd (cc (h))
+met_step : (met : Result Bool NodeFault) → IsMetAs met (Ok Step) → met ≡ Ok true
+met_step (Ok true) h = refl
+met_step (Ok false) h = absurd (cc (h))
+met_step (Err f) h = absurd (cc (h))
 
 met_again : (met : Result Bool NodeFault) → IsMetAs met (Ok Again) → met ≡ Ok false
 met_again (Ok true) h = absurd (h.1 refl)
@@ -159,16 +159,16 @@ met_err (Err g) f h = let e : g ≡ f = cc (h) in inl (ap Err e)
 
 -- a step that was made, or a parcel that came before, at the input that numbers mean
 pub step_of : (before after : List ℕ) (numbers : KtInput) (v new : NodeLinks) (x : Input) (able : Bool) (t : Taken) (out : Output) →
-    IsLoaded before v → SaysNode before v → input_meant numbers ≡ Some x → able ≡ truth_meant numbers.able → t ≡ Step out → SavesNode after new → TakesInOrder v new x t → IsMetAs (meeting_at v x) (Ok t) →
+    IsLoaded before v → SaysNode before v → input_meant numbers ≡ Some x → able ≡ truth_meant numbers.able → t ≡ Step → SavesNode after new → TakesInOrder v new x t → IsMetAs (meeting_at v x) (Ok t) →
     ((y : NodeState) → ShowsNode v.manager y → IsParcelRefusedAs (fault_at y (input_of able x)) (Ok t)) →
-    ((y : NodeState) → ShowsLinks v y → IsUntaken t (IsStep v new (clock_of x) y (input_of able x))) →
+    ((y : NodeState) → ShowsLinks v y → IsUntaken t (IsStep v new (clock_of x) y (input_of able x) out)) →
     IsStepOf before numbers after out × SavesNode after new
 step_of before after numbers v new x able t out loaded said meant is made_it saves takes met free done = (
   record {
     x = x;
-    met = meets before numbers v x (Ok true) loaded said meant (met_step (meeting_at v x) out (subst (λ (t : Taken). IsMetAs (meeting_at v x) (Ok t)) made_it met));
+    met = meets before numbers v x (Ok true) loaded said meant (met_step (meeting_at v x) (subst (λ (t : Taken). IsMetAs (meeting_at v x) (Ok t)) made_it met));
     rule = rw (sym is) (made before after v new x able out loaded said.own saves (subst (TakesInOrder v new x) made_it takes)
-        (λ y seen. subst (λ (t : Taken). IsUntaken t (IsStep v new (clock_of x) y (input_of able x))) made_it (done y seen))
+        (λ y seen. subst (λ (t : Taken). IsUntaken t (IsStep v new (clock_of x) y (input_of able x) out)) made_it (done y seen))
         (λ y seen. subst (λ (t : Taken). IsParcelRefusedAs (fault_at y (input_of able x)) (Ok t)) made_it (free y seen)));
   },
   saves,

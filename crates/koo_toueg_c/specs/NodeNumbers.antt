@@ -244,6 +244,10 @@ act_numbers act.Discard = record no_act { kind = 4 }
 act_numbers act.Restore = record no_act { kind = 5 }
 act_numbers act.Drop = record no_act { kind = 6 }
 
+abbrev pub act_told : Option Act → KtAct
+act_told None = no_act
+act_told (Some a) = act_numbers a
+
 -- what became of an input: nothing; a refusal; a state that does not fit
 abbrev pub no_output : KtOutput
 no_output = record {

@@ -1,5 +1,5 @@
 -- A node that is bytes: the states that they say, and how an input leads from one to the next one.
-use Rattle.std.specs.Prelude.{◌≡◌, ◌<◌, ◌≤◌, ◌+◌, ◌-◌, ◌^◌, ◌⊎◌, ℕ, max, Bool, true, false, Option, Some, None, is_some, Result, Ok, Err, List, [], ◌∷◌, length, map, slice_get, slice_index}
+use Rattle.std.specs.Prelude.{◌≡◌, ◌<◌, ◌≤◌, ◌+◌, ◌-◌, ◌^◌, ◌⊎◌, ℕ, max, Bool, true, false, Option, Some, None, is_some, option_map, Result, Ok, Err, List, [], ◌∷◌, length, slice_get, slice_index}
 use Rattle.kt_meaning.specs.Past.{at_one}
 use Rattle.kt_checksum.specs.Checksums.{sealed}
 use Rattle.kt_text.specs.Writing.{text_of}
@@ -11,7 +11,7 @@ use Rattle.kt_manager.specs.ShownActs.{acts_shown}
 use Rattle.kt_merge.specs.Spelling.{part_spelling}
 use Rattle.kt_spacetime.specs.declared.named_rows.ClockedRow.{ClockedRow}
 use Rattle.kt_node.specs.Managers.{ShowsNode}
-use Rattle.kt_manager.specs.Effects.{put_to, rows_told}
+use Rattle.kt_manager.specs.Effects.{put_to}
 use Rattle.kt_node.specs.Faults.{fault_at, wants_memory}
 use Rattle.kt_node.specs.Links.{NodeLinks, ShowsLinks, IsGiven, IsParcelRefusedAs}
 use Rattle.kt_node.specs.Looks.{clock_of, input_of, meeting_at, node_look}
@@ -26,7 +26,7 @@ use Rattle.kt_node.specs.declared.node.Taken.{Taken}
 use Rattle.kt_node.specs.declared.node.Taken.TheVariants.{Step, Again}
 use Rattle.kt_node_text.specs.Form.{text_of as node_text}
 use Rattle.kt_node_text.specs.Sameness.{IsOwn, IsSound}
-use Rattle.koo_toueg_c.specs.NodeNumbers.{act_numbers, input_meant, look_status, of_truth, parcel_numbers, part_row_meant, row_numbers, truth_meant}
+use Rattle.koo_toueg_c.specs.NodeNumbers.{act_told, input_meant, look_status, of_truth, parcel_numbers, part_row_meant, row_numbers, truth_meant}
 use Rattle.koo_toueg_c.specs.declared.node.input.KtInput.{KtInput}
 use Rattle.koo_toueg_c.specs.declared.node.output.KtOutput.{KtOutput}
 use Rattle.koo_toueg_c.specs.declared.node.refusal.Refusal.{Refusal}
@@ -73,7 +73,7 @@ TakesOne old new (Redeliver from) = new.taken ≡ old.taken
 
 -- an input makes a step, in order, or came before
 abbrev pub TakesInOrder : NodeLinks → NodeLinks → Input → Taken → Type 0
-TakesInOrder old new x (Step out) = TakesOne old new x
+TakesInOrder old new x Step = TakesOne old new x
 TakesInOrder old new x Again = Unit {0}
 
 -- what the rule does at an input, where its object can be saved or not
@@ -82,7 +82,7 @@ rule_at y able x = node_after y (input_of able x)
 
 -- what a step puts out is what the rule does
 pub record PutsOut (out : Output) (d : Doing) : Type 0 where
-  pub rows : rows_told out.effects.rows ≡ d.rows
+  pub rows : out.effects.rows ≡ d.rows
   pub acts : acts_shown out.effects.acts ≡ d.acts
   pub parcels : (q : ℕ) → put_to out.effects.parcels q ≡ d.puts q
 
@@ -129,13 +129,12 @@ HoldsNone w = (y : NodeState) (q : ℕ) → ShowsNode w.manager y →
     is_in_rollback y ≡ false → has_some (y.held q) ≡ false
 
 -- the parcel for a process, as it travels
+abbrev pub envelope_for : Output → ℕ → NodeParcel → Envelope
+envelope_for out q parcel =
+    record { from = out.from; to = q; number = slice_index out.numbers q; clock = out.clock; parcel = parcel }
+
 abbrev pub parcel_for : Output → ℕ → Option Envelope
-parcel_for out q = first_of out q (slice_index out.numbers q) (put_to out.effects.parcels q)
-  where
-    first_of : Output → ℕ → ℕ → List NodeParcel → Option Envelope
-    first_of out q n [] = None
-    first_of out q n (parcel ∷ rest) =
-        Some (record { from = out.from; to = q; number = n; clock = out.clock; parcel = parcel })
+parcel_for out q = option_map (envelope_for out q) (slice_get (put_to out.effects.parcels q) 0)
 
 -- what a step puts out, and how its node stands by then, in numbers
 pub record TellsOutput (w : NodeLinks) (out : Output) (told : KtOutput) : Type 0 where
@@ -143,8 +142,10 @@ pub record TellsOutput (w : NodeLinks) (out : Output) (told : KtOutput) : Type 0
   pub clock : told.clock ≡ out.clock
   pub process : told.process ≡ w.manager.me
   pub processes : told.processes ≡ w.manager.size
-  pub rows : told.rows ≡ map row_numbers out.effects.rows
-  pub acts : told.acts ≡ map act_numbers out.effects.acts
+  pub few_rows : length out.effects.rows ≤ 4
+  pub rows : (i : ℕ) → i < 4 → slice_get told.rows i ≡ Some (row_numbers (slice_get out.effects.rows i))
+  pub few_acts : length out.effects.acts ≤ 2
+  pub acts : (i : ℕ) → i < 2 → slice_get told.acts i ≡ Some (act_told (slice_get out.effects.acts i))
   pub parcels : (q : ℕ) → q < 64 → slice_get told.parcels q ≡ Some (parcel_numbers (parcel_for out q))
   pub busy : told.busy ≡ of_truth (is_some w.manager.inst)
   pub up : told.up ≡ of_truth w.manager.process.up
@@ -165,10 +166,10 @@ pub record IsAgainOf (before : List ℕ) (numbers : KtInput) : Type 0 where
   pub met : MeetsAs before numbers x (Ok false)
 
 -- a step that was made, and its bytes; or a parcel that came before
-abbrev pub IsTaken : List ℕ → KtInput → Option StepMade → Type 0
-IsTaken before numbers None = IsAgainOf before numbers
-IsTaken before numbers (Some step) =
-    IsStepOf before numbers step.bytes.items step.output × SavesNode step.bytes.items step.node
+abbrev pub IsTaken : List ℕ → KtInput → Output → Option StepMade → Type 0
+IsTaken before numbers out None = IsAgainOf before numbers
+IsTaken before numbers out (Some step) =
+    IsStepOf before numbers step.bytes.items out × SavesNode step.bytes.items step.node
 
 -- a node that bytes say refuses an input that is given to its manager
 pub record RefusesGiven (before : List ℕ) (x : Input) (able : Bool) (f : NodeFault) : Type 0 where

@@ -13,7 +13,7 @@ ghost use Rattle.koo_toueg_c.specs.Nodes.{IsAgainOf, IsLookOf, IsNoNewNode, IsNo
 use crate::buffers::put;
 use kt_base::Label;
 use kt_merge::write_part;
-use kt_node::Node;
+use kt_node::{Node, Output};
 use kt_node_text::load;
 use kt_plan::Look;
 use kt_spacetime::{ClockedRow, NamedRow};
@@ -111,10 +111,11 @@ pub extern "C" fn kt_node_step(
     if *len > state.len() {
         return refuse(&Refusal::State, output);
     }
-    match stepped(alloc, &state[..*len], input) {
-        Ok(Some(step)) => tell_step(&step, state, len, output),
+    let mut out = Output::new();
+    match stepped(alloc, &state[..*len], input, &mut out) {
+        Ok(Some(step)) => tell_step(&step, &out, state, len, output),
         Ok(None) => {
-            *output = KtOutput::none();
+            output.clear();
             1
         }
         Err(why) => refuse(&why, output),
@@ -196,9 +197,15 @@ fn opening(alloc: Global, me: u32, processes: u32) -> Result<Vec<u8>, Refusal>
     Ok(bytes_of(alloc, &node)?)
 }
 
-// Tells a step that was made; its status.
-fn tell_step(step: &Step, state: &mut [u8], len: &mut usize, output: &mut KtOutput) -> u32
-    ensures told { result ≡ 0 → TellsOutput step.now.node step.now.output output.new
+// Tells a step that was made, and what it put out; its status.
+fn tell_step(
+    step: &Step,
+    out: &Output,
+    state: &mut [u8],
+    len: &mut usize,
+    output: &mut KtOutput,
+) -> u32
+    ensures told { result ≡ 0 → TellsOutput step.now.node out.now output.new
         × IsPut step.now.bytes.items state.old state.new len.new }
     ensures short { result ≢ 0 → (result ≡ 5) × (length state.old < length step.now.bytes.items)
         × (output.new ≡ output_too_long (length step.now.bytes.items)) }
@@ -206,10 +213,10 @@ fn tell_step(step: &Step, state: &mut [u8], len: &mut usize, output: &mut KtOutp
 {
     let bytes = step.bytes.as_slice();
     if bytes.len() > state.len() {
-        *output = KtOutput::too_long(bytes.len());
+        output.tell_needed(bytes.len());
         return TOO_SHORT;
     }
-    *output = KtOutput::of(step);
+    output.tell(&step.node, out);
     put(bytes, state, len)
 }
 
@@ -221,7 +228,7 @@ fn refuse(why: &Refusal, output: &mut KtOutput) -> u32
     ensures few { result ≤ 4 }
     ensures other { result ≢ 3 }
 {
-    *output = KtOutput::of_refusal(why);
+    output.tell_refusal(why);
     why.status()
 }
 

@@ -9,7 +9,7 @@ use Rattle.kt_base.specs.declared.words.Verb.TheVariants as verb
 use Rattle.kt_spacetime.specs.declared.named_rows.NamedCause.TheVariants.{Down}
 use Rattle.kt_manager.specs.declared.parcels.NodeParcel.{NodeParcel}
 use Rattle.kt_manager.specs.declared.parcels.NodeParcel.TheVariants.{App, Ask, Reply, Decide}
-use Rattle.kt_manager.specs.Nodes.{Doing, nothing}
+use Rattle.kt_manager.specs.Nodes.{Doing}
 use Rattle.kt_node.specs.Inputs.{Input, Send}
 use Rattle.kt_node.specs.Inputs as input
 use Rattle.kt_manager.specs.NodeMessages.{sending, refusing}

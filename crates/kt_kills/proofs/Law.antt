@@ -7,7 +7,7 @@ use Rattle.std.proofs.Math.Seq.{drop-append_seam}
 use Rattle.kt_meaning.specs.Past.{at_one}
 use Rattle.kt_machine.specs.Acts.{stepper}
 use Rattle.kt_manager.specs.declared.parcels.NodeParcel.{NodeParcel}
-use Rattle.kt_manager.specs.Nodes.{NodeState, is_in_rollback}
+use Rattle.kt_manager.specs.Nodes.{is_in_rollback}
 use Rattle.kt_node.specs.Inputs.{Input}
 use Rattle.kt_node.specs.Inputs as input
 use Rattle.kt_node.specs.Nets.{has_some, net_run, opening_net}

@@ -1,9 +1,8 @@
 -- A list has a number at least for each of its elements.
 use Rattle.std.specs.List.{flat_map}
 use Rattle.std.proofs.Common.{ℕ, ◌≤◌, List, [], ◌∷◌, ◌++◌, length, arith, length-append}
-use Rattle.kt_fifo.specs.declared.parcels.Parcel.{Parcel}
-use Rattle.kt_fifo.specs.declared.parcels.Parcel.TheVariants.{App, Ask, Reply, Decide}
-use Rattle.kt_node_text.specs.Form.{of_pair, of_parcel}
+use Rattle.kt_manager.specs.declared.received.Item.{Item}
+use Rattle.kt_node_text.specs.Form.{of_pair, of_item}
 
 pub as_many : (xs after : List ℕ) → length xs ≤ length (xs ++ after)
 as_many xs after = omega (arith, length-append xs after)
@@ -18,14 +17,11 @@ enough f some (x ∷ xs) after =
 some_pair : (x : ℕ × ℕ) → 1 ≤ length (of_pair x)
 some_pair x = omega arith
 
-some_parcel : (x : Parcel) → 1 ≤ length (of_parcel x)
-some_parcel (App label msg body) = omega arith
-some_parcel (Ask inst kind label) = omega arith
-some_parcel (Reply inst willing) = omega arith
-some_parcel (Decide inst commit) = omega arith
+some_item : (x : Item) → 1 ≤ length (of_item x)
+some_item x = omega arith
 
 pub enough_pairs : (xs : List (ℕ × ℕ)) (after : List ℕ) → length xs ≤ length (flat_map of_pair xs ++ after)
 enough_pairs = enough of_pair some_pair
 
-pub enough_parcels : (xs : List Parcel) (after : List ℕ) → length xs ≤ length (flat_map of_parcel xs ++ after)
-enough_parcels = enough of_parcel some_parcel
+pub enough_items : (xs : List Item) (after : List ℕ) → length xs ≤ length (flat_map of_item xs ++ after)
+enough_items = enough of_item some_item

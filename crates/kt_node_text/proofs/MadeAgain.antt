@@ -1,7 +1,6 @@
 -- What is made of the form of a process, a manager or a node has that form again, and belongs together as it does.
-use Rattle.std.proofs.Common.{◌≡◌, ◌∙◌, ◌+◌, ◌-◌, ◌^◌, ◌<◌, ◌≤◌, ◌∷◌, ◌++◌, ℕ, Bool, List, [], length, refl, sym, ap, subst, arith}
+use Rattle.std.proofs.Common.{◌≡◌, ◌∙◌, ◌-◌, ◌^◌, ◌<◌, ◌≤◌, ◌∷◌, ◌++◌, ℕ, Bool, List, [], length, refl, sym, ap, subst, arith}
 use Rattle.std.specs.Prelude.{zero, suc, Option, slice_index}
-use Rattle.kt_fifo.specs.Channels.{ChannelLists, channel}
 use Rattle.kt_tables.specs.Peers.{find_label, label_of}
 use Rattle.kt_tables.specs.States.{State}
 use Rattle.kt_process.specs.ProcessStates.{ProcessState, ProcessFits, is_saving, part_of_side, IsNear, HasMarks}
@@ -11,11 +10,12 @@ use Rattle.kt_machine.specs.Seen.{SeenPart}
 use Rattle.kt_node.specs.OwnParts.{HasOwnPart}
 use Rattle.kt_spacetime.specs.declared.names.InstName.{InstName}
 use Rattle.kt_node.specs.Managers.{ManagerState, IsSoundManager}
+use Rattle.kt_manager.specs.Inboxes.{InboxLists, processes_of, kept_of, held_of}
 use Rattle.kt_manager.specs.Managers.{number_in}
 use Rattle.kt_node.specs.Links.{NodeLinks, AreCounted}
 use Rattle.kt_node.specs.declared.reach.Reaches.{Reaches}
-use Rattle.kt_node_text.specs.Form.{gather, counted, of_parcel, of_lists, of_flag, of_name, of_side, of_tables, of_process, of_manager, of_list, of_reaches, numbers_of, version}
-use Rattle.kt_node_text.proofs.GatheredReads.{list_form}
+use Rattle.kt_node_text.specs.Form.{gather, counted, of_item, of_lists, of_flag, of_name, of_side, of_tables, of_process, of_manager, of_list, of_reaches, numbers_of, version}
+use Rattle.kt_node_text.proofs.GatheredReads.{Lists, list_form}
 use Rattle.kt_node_text.proofs.Parts.{one_tables, one_process}
 
 same_labels : (t u : State) (q n : ℕ) → of_tables t ≡ of_tables u → label_of u.last_out q ≤ n → label_of t.last_out q ≤ n
@@ -61,63 +61,60 @@ pub form_again : (x : ProcessState) (t : State) (side : Option Side) (up : Bool)
 form_again x t side up used h =
     sym (ap of_process (parts_are x t side up used h)) ∙ ap (λ (l : List ℕ). x.used ∷ of_flag x.up ∷ of_side x.side ++ l) h.tables
 
--- the lists to one process are of one form where they are the same
+-- messages are of one form where they are the same
 same_gather : (n : ℕ) (f g : ℕ → List ℕ) → ((q : ℕ) → q < n → f q ≡ g q) → gather n f ≡ gather n g
 unfolding gather
 same_gather zero f g h = refl
 same_gather (suc n) f g h = λ i. same_gather n f g (λ q b. h q (omega arith)) i ++ h n (omega arith) i
 
-same_lists : (u v : ChannelLists) (m n p q : ℕ) → m ≡ n → p ≡ q → ((k : ℕ) → k < m → channel u k p ≡ channel v k p) → of_lists m p u ≡ of_lists n q v
-same_lists u v m n p q e f h = same_gather m (list_form u p) (list_form v p) (λ k b. ap (counted of_parcel) (h k b)) ∙ (λ i. of_lists (e i) (f i) v)
+same_lists : (u v : Lists) (m n : ℕ) → m ≡ n → ((k : ℕ) → k < m → u k ≡ v k) → of_lists m u ≡ of_lists n v
+same_lists u v m n e h = same_gather m (list_form u) (list_form v) (λ k b. ap (counted of_item) (h k b)) ∙ (λ i. of_lists (e i) v)
 
 -- what was read of a manager
-pub record IsReadManager (w : ManagerState) (size me : ℕ) (process : ProcessState) (inst : Option InstName) (begun : ℕ) (held kept : ChannelLists) (asks : List (Option InstName)) (answered : ℕ) : Type 0 where
+pub record IsReadManager (w : ManagerState) (size me : ℕ) (process : ProcessState) (inst : Option InstName) (begun : ℕ) (inbox : InboxLists) (asks : List (Option InstName)) (answered : ℕ) : Type 0 where
   pub is_size : size ≡ w.size
   pub is_me : me ≡ w.me
   pub tables : process.tables.processes ≡ size
   pub form : of_process process ≡ of_process w.process
   pub name : inst ≡ w.inst
   pub count : begun ≡ w.begun
-  pub held_of : held.processes ≡ size
-  pub kept_of : kept.processes ≡ size
-  pub held_same : (q : ℕ) → q < size → channel held q me ≡ channel w.held q me
-  pub kept_same : (q : ℕ) → q < size → channel kept q me ≡ channel w.kept q me
+  pub senders : processes_of inbox ≡ size
+  pub lists : (q : ℕ) → q < size → (held_of inbox q ≡ held_of w.inbox q) × (kept_of inbox q ≡ kept_of w.inbox q)
   pub named : asks ≡ w.asks
   pub replied : answered ≡ w.answered
 
-abbrev pub manager_of : ℕ → ProcessState → Option InstName → ℕ → ChannelLists → ChannelLists → List (Option InstName) → ℕ → ManagerState
-manager_of me process inst begun held kept asks answered = record { size = process.tables.processes; me = me; process = process; inst = inst; begun = begun; held = held; kept = kept; asks = asks; answered = answered }
+abbrev pub manager_of : ℕ → ProcessState → Option InstName → ℕ → InboxLists → List (Option InstName) → ℕ → ManagerState
+manager_of me process inst begun inbox asks answered = record { size = process.tables.processes; me = me; process = process; inst = inst; begun = begun; inbox = inbox; asks = asks; answered = answered }
 
-pub sound_again : (w : ManagerState) (size me : ℕ) (process : ProcessState) (inst : Option InstName) (begun : ℕ) (held kept : ChannelLists) (asks : List (Option InstName)) (answered : ℕ) → IsSoundManager w →
-    IsReadManager w size me process inst begun held kept asks answered → IsSoundManager (manager_of me process inst begun held kept asks answered)
-sound_again w size me process inst begun held kept asks answered f h = record {
+pub sound_again : (w : ManagerState) (size me : ℕ) (process : ProcessState) (inst : Option InstName) (begun : ℕ) (inbox : InboxLists) (asks : List (Option InstName)) (answered : ℕ) → IsSoundManager w →
+    IsReadManager w size me process inst begun inbox asks answered → IsSoundManager (manager_of me process inst begun inbox asks answered)
+sound_again w size me process inst begun inbox asks answered f h = record {
   few = omega (arith, h.tables, h.is_size, f.few);
   me = omega (arith, h.tables, h.is_size, h.is_me, f.me);
   tables = refl;
   begun = subst (λ (n : ℕ). n < 2 ^ 48) (sym h.count) f.begun;
-  held = h.held_of ∙ sym h.tables;
-  kept = h.kept_of ∙ sym h.tables;
+  inbox = h.senders ∙ sym h.tables;
 }
 
-pub manager_again : (w : ManagerState) (size me : ℕ) (process : ProcessState) (inst : Option InstName) (begun : ℕ) (held kept : ChannelLists) (asks : List (Option InstName)) (answered : ℕ) →
-    IsReadManager w size me process inst begun held kept asks answered → of_manager (manager_of me process inst begun held kept asks answered) ≡ of_manager w
-manager_again w size me process inst begun held kept asks answered h =
+pub manager_again : (w : ManagerState) (size me : ℕ) (process : ProcessState) (inst : Option InstName) (begun : ℕ) (inbox : InboxLists) (asks : List (Option InstName)) (answered : ℕ) →
+    IsReadManager w size me process inst begun inbox asks answered → of_manager (manager_of me process inst begun inbox asks answered) ≡ of_manager w
+manager_again w size me process inst begun inbox asks answered h =
     let n : process.tables.processes ≡ w.size = h.tables ∙ h.is_size in
-    let held_form = same_lists held w.held process.tables.processes w.size me w.me n h.is_me (λ k b. h.held_same k (omega (arith, h.tables))) in
-    let kept_form = same_lists kept w.kept process.tables.processes w.size me w.me n h.is_me (λ k b. h.kept_same k (omega (arith, h.tables))) in
+    let held_form = same_lists (held_of inbox) (held_of w.inbox) process.tables.processes w.size n (λ k b. (h.lists k (omega (arith, h.tables))).0) in
+    let kept_form = same_lists (kept_of inbox) (kept_of w.inbox) process.tables.processes w.size n (λ k b. (h.lists k (omega (arith, h.tables))).1) in
     λ i. n i ∷ h.is_me i ∷ h.count i ∷ of_name (h.name i) ++ (h.form i ++ (held_form i ++ (kept_form i ++ (counted of_name (h.named i) ++ h.replied i ∷ []))))
 
 -- and its part is its own
-pub own_again : (w : ManagerState) (size me : ℕ) (process : ProcessState) (inst : Option InstName) (begun : ℕ) (held kept : ChannelLists) (asks : List (Option InstName)) (answered : ℕ) → HasOwnPart w →
-    IsReadManager w size me process inst begun held kept asks answered → HasOwnPart (manager_of me process inst begun held kept asks answered)
-own_again w size me process inst begun held kept asks answered f h =
+pub own_again : (w : ManagerState) (size me : ℕ) (process : ProcessState) (inst : Option InstName) (begun : ℕ) (inbox : InboxLists) (asks : List (Option InstName)) (answered : ℕ) → IsSoundManager w → HasOwnPart w →
+    IsReadManager w size me process inst begun inbox asks answered → HasOwnPart (manager_of me process inst begun inbox asks answered)
+own_again w size me process inst begun inbox asks answered sound f h =
     let same = (one_process process w.process [] [] (ap (λ (l : List ℕ). l ++ []) h.form)).0 in
     let n : process.tables.processes ≡ w.size = h.tables ∙ h.is_size in record {
       named = same.side.inst ∙ (f.named ∙ ap number_in (sym h.name));
       marks = λ q b.
           let marks : (part_shown process.side).marks q ≡ (part_shown w.process.side).marks q = ap (λ (p : SeenPart). p.marks q) same.side.shown in
-          let there : length (channel kept q me) ≡ length (channel w.kept q w.me) = ap length (h.kept_same q (omega (arith, h.tables, b))) ∙ ap (λ (p : ℕ). length (channel w.kept q p)) h.is_me in
-          omega (arith, marks, there, f.marks q (omega (arith, n, b)));
+          let there : length (kept_of inbox q) ≡ length (kept_of w.inbox q) = ap length (h.lists q (omega (arith, h.tables, b))).1 in
+          omega (arith, marks, there, f.marks q (omega (arith, n, sound.tables, b)));
     }
 
 -- what was read of a node

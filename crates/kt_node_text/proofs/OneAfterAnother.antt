@@ -5,15 +5,11 @@ use Rattle.std.specs.Option.{ok_or}
 use Rattle.std.proofs.lemmas.Int.{ints, to_z_pos}
 use Rattle.std.proofs.Common.{◌≡◌, ◌∙◌, ◌+◌, ◌-◌, ◌^◌, ◌<◌, ◌≤◌, ℕ, List, [], ◌∷◌, ◌++◌, Bool, true, false, refl, sym, ap, subst, arith}
 use mir.Val.{to_z, of_z}
-use Rattle.kt_base.specs.Numbers.{IsInstNo, IsLabel}
-use Rattle.kt_base.specs.declared.words.Kind.{Kind}
-use Rattle.kt_fifo.specs.declared.parcels.Parcel.{Parcel}
-use Rattle.kt_fifo.specs.declared.parcels.Parcel.TheVariants.{App, Ask, Reply, Decide}
 use Rattle.kt_spacetime.specs.declared.names.InstName.{InstName}
 use Rattle.kt_node_text.specs.declared.fault.LoadFault.{LoadFault}
 use Rattle.kt_node_text.specs.declared.fault.LoadFault.TheVariants.{Form, Memory}
-use Rattle.kt_node_text.specs.Form.{of_flag, of_body, of_name, of_kind, of_parcel}
-use Rattle.kt_node_text.specs.Ranges.{IsName, IsParcel}
+use Rattle.kt_node_text.specs.Form.{of_flag, of_body, of_name}
+use Rattle.kt_node_text.specs.Ranges.{IsName}
 use Rattle.kt_node_text.specs.Reading.{IsMemory, IsReadAs}
 
 -- a fault that is handed on
@@ -89,12 +85,3 @@ below_zero (negsuc n) size fits h e = omega (arith, ints, fits.sfits)
 pub a_body : (b : ℤ) (size : ℕ) → FitsSigned w64 b → size ≡ body_size b → (is_negative b ≡ false → size < 2 ^ 63) × (is_negative b ≡ true → 1 ≤ size)
 a_body (pos n) size fits e = (λ h. omega (arith, fits.sfits), λ h. absurd cc)
 a_body (negsuc n) size fits e = (λ h. absurd cc, λ h. omega arith)
-
--- a parcel with the number of an ask is one
-pub an_ask : (x : Parcel) (after all left : List ℕ) (n : ℕ) → ((t : ℕ) (r : List ℕ) → t ≤ 3 → all ≡ t ∷ r → (n ≡ t) × (left ≡ r)) →
-    IsParcel x → all ≡ of_parcel x ++ after → n ≡ 1 →
-    (i : ℕ) × (k : Kind) × (l : ℕ) × (Ask i k l ≡ x) × IsInstNo i × IsLabel l × (left ≡ i ∷ of_kind k ∷ l ∷ after)
-an_ask (App l m b) after all left n h range e is = absurd (omega (arith, (h 0 _ (omega arith) e).0))
-an_ask (Ask i k l) after all left n h range e is = (i, k, l, refl, range.0, range.1, (h 1 _ (omega arith) e).1)
-an_ask (Reply i w) after all left n h range e is = absurd (omega (arith, (h 2 _ (omega arith) e).0))
-an_ask (Decide i w) after all left n h range e is = absurd (omega (arith, (h 3 _ (omega arith) e).0))

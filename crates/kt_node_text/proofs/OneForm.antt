@@ -1,12 +1,8 @@
 -- Of each thing there is one form, and no form begins another one.
-use Rattle.std.specs.Prelude.{ℤ, pos, negsuc, Option, Some, None, zero, suc}
+use Rattle.std.specs.Prelude.{pos, negsuc, Option, Some, None, zero, suc}
 use Rattle.std.specs.List.{flat_map}
 use Rattle.std.proofs.Common.{◌≡◌, ◌∙◌, ◌+◌, ◌<◌, ℕ, Bool, true, false, List, [], ◌∷◌, ◌++◌, length, refl, sym, ap, arith, append_assoc, below_more}
-use Rattle.kt_base.specs.declared.words.Kind.{Kind}
-use Rattle.kt_base.specs.declared.words.Kind.TheVariants.{Checkpoint, Rollback}
-use Rattle.kt_fifo.specs.declared.parcels.Parcel.{Parcel}
-use Rattle.kt_fifo.specs.declared.parcels.Parcel.TheVariants.{App, Ask, Reply, Decide}
-use Rattle.kt_node_text.specs.Form.{of_flag, of_optional, of_list, counted, of_pair, gather, of_body, of_kind, of_parcel}
+use Rattle.kt_node_text.specs.Form.{of_flag, of_optional, of_list, counted, of_pair, gather, of_body, of_item}
 
 abbrev pub Numbers : Type 0
 Numbers = List ℕ
@@ -25,12 +21,6 @@ one_flag false false e = refl
 one_flag false true e = absurd (omega arith)
 one_flag true false e = absurd (omega arith)
 one_flag true true e = refl
-
-pub one_kind : (a b : Kind) → of_kind a ≡ of_kind b → a ≡ b
-one_kind Checkpoint Checkpoint e = refl
-one_kind Checkpoint Rollback e = absurd (omega arith)
-one_kind Rollback Checkpoint e = absurd (omega arith)
-one_kind Rollback Rollback e = refl
 
 pub one_optional : (a b : Option ℕ) → of_optional a ≡ of_optional b → a ≡ b
 one_optional None None e = refl
@@ -53,40 +43,12 @@ one_body (negsuc m) (negsuc n) r s e =
     let h : m ≡ n = omega arith in
     (ap negsuc h, same_tail _ _ _ _ (same_tail _ _ _ _ e))
 
-pub one_parcel : IsOneForm of_parcel
-one_parcel (App l m b) (App k n c) r s e =
-    let label : l ≡ k = cc in
-    let number : m ≡ n = cc in
-    let rest : of_body b ++ r ≡ of_body c ++ s = same_tail _ _ _ _ (same_tail _ _ _ _ (same_tail _ _ _ _ e)) in
-    let body = one_body b c r s rest in (λ i. App (label i) (number i) (body.0 i), body.1)
-one_parcel (App l m b) (Ask k d n) r s e = absurd (omega (arith, same_head _ _ _ _ e))
-one_parcel (App l m b) (Reply k w) r s e = absurd (omega (arith, same_head _ _ _ _ e))
-one_parcel (App l m b) (Decide k w) r s e = absurd (omega (arith, same_head _ _ _ _ e))
-one_parcel (Ask j k l) (App m n b) r s e = absurd (omega (arith, same_head _ _ _ _ e))
-one_parcel (Ask j k l) (Ask i d n) r s e =
-    let inst : j ≡ i = cc in
-    let number : of_kind k ≡ of_kind d = cc in
-    let label : l ≡ n = cc in
-    let rest : r ≡ s = cc in
-    let kind = one_kind k d number in (λ x. Ask (inst x) (kind x) (label x), rest)
-one_parcel (Ask j k l) (Reply i w) r s e = absurd (omega (arith, same_head _ _ _ _ e))
-one_parcel (Ask j k l) (Decide i w) r s e = absurd (omega (arith, same_head _ _ _ _ e))
-one_parcel (Reply j w) (App l m b) r s e = absurd (omega (arith, same_head _ _ _ _ e))
-one_parcel (Reply j w) (Ask i d n) r s e = absurd (omega (arith, same_head _ _ _ _ e))
-one_parcel (Reply j w) (Reply i v) r s e =
-    let inst : j ≡ i = cc in
-    let number : of_flag w ≡ of_flag v = cc in
-    let rest : r ≡ s = cc in
-    let flag = one_flag w v number in (λ x. Reply (inst x) (flag x), rest)
-one_parcel (Reply j w) (Decide i v) r s e = absurd (omega (arith, same_head _ _ _ _ e))
-one_parcel (Decide j w) (App l m b) r s e = absurd (omega (arith, same_head _ _ _ _ e))
-one_parcel (Decide j w) (Ask i d n) r s e = absurd (omega (arith, same_head _ _ _ _ e))
-one_parcel (Decide j w) (Reply i v) r s e = absurd (omega (arith, same_head _ _ _ _ e))
-one_parcel (Decide j w) (Decide i v) r s e =
-    let inst : j ≡ i = cc in
-    let number : of_flag w ≡ of_flag v = cc in
-    let rest : r ≡ s = cc in
-    let flag = one_flag w v number in (λ x. Decide (inst x) (flag x), rest)
+pub one_item : IsOneForm of_item
+one_item x y r s e =
+    let e1 = same_tail _ _ _ _ e in
+    let label : x.label ≡ y.label = same_head _ _ _ _ e1 in
+    let body = one_body x.body y.body r s (same_tail _ _ _ _ (same_tail _ _ _ _ e1)) in
+    (λ i. record { label = label i; body = body.0 i }, body.1)
 
 long_list : (xs ys r s : Numbers) → length xs ≡ length ys → xs ++ r ≡ ys ++ s → (xs ≡ ys) × (r ≡ s)
 long_list [] [] r s n e = (refl, e)

@@ -1,6 +1,6 @@
 -- What the forms of a process's parts leave the same.
 use Rattle.std.specs.Prelude.{Option, Some, None}
-use Rattle.std.proofs.Common.{◌≡◌, ◌∙◌, ◌+◌, ◌<◌, ℕ, Bool, true, false, List, [], ◌∷◌, ◌++◌, refl, sym, ap, arith, append_assoc}
+use Rattle.std.proofs.Common.{◌≡◌, ◌∙◌, ℕ, true, false, List, ◌++◌, refl, sym, ap, arith, append_assoc}
 use Rattle.kt_process.specs.Parts.{Part}
 use Rattle.kt_process.specs.ProcessStates.{ProcessState, is_saving}
 use Rattle.kt_process.specs.Notes.{note_of, find_note}
@@ -8,11 +8,8 @@ use Rattle.kt_process.specs.Shown.{part_as, part_shown, inst_shown, mark_of, no_
 use Rattle.kt_process.specs.declared.side.Side.{Side}
 use Rattle.kt_process.specs.declared.side.Side.TheVariants as side
 use Rattle.kt_machine.specs.SeenJoining.{no_note}
-use Rattle.kt_spacetime.specs.declared.names.InstName.{InstName}
 use Rattle.kt_tables.specs.States.{State}
-use Rattle.kt_node.specs.declared.reach.Reach.{Reach}
-use Rattle.kt_node.specs.declared.reach.Reaches.{Reaches}
-use Rattle.kt_node_text.specs.Form.{of_flag, of_optional, of_list, counted, of_pair, of_tables, of_part, of_side, of_name, of_process, of_reach, of_reaches}
+use Rattle.kt_node_text.specs.Form.{of_list, counted, of_pair, of_tables, of_part, of_side, of_name, of_process, of_reach, of_reaches}
 use Rattle.kt_node_text.proofs.OneForm.{Numbers, IsOneForm, same_head, same_tail, one_flag, one_optional, one_pair, one_list, one_counted}
 
 pub one_part : IsOneForm of_part

@@ -1,11 +1,11 @@
 -- Nodes with the same numbers are the same, but for room.
-use Rattle.std.specs.Prelude.{Option, Some, None, nat_lt, slice_index_or}
-use Rattle.std.proofs.Common.{◌≡◌, ◌∙◌, ◌+◌, ◌<◌, ◌≤◌, ℕ, Bool, true, false, List, [], ◌∷◌, ◌++◌, refl, sym, ap, subst, arith, append_assoc, inl, inr}
+use Rattle.std.specs.Prelude.{Option, None, slice_index_or}
+use Rattle.std.proofs.Common.{◌≡◌, ◌∙◌, ◌<◌, ◌≤◌, ℕ, List, [], ◌∷◌, ◌++◌, refl, sym, ap, subst, arith, inl, inr}
 use Rattle.std.proofs.lemmas.Bool.{cases_lt}
-use Rattle.std.proofs.lemmas.Bool.Decides.{nat_tests}
+use Rattle.std.proofs.lemmas.List.{get_or_past}
+use Rattle.kt_node_text.proofs.GatheredReads.{Lists}
 use Rattle.std.proofs.Math.Path.{fun_ext}
 use Rattle.kt_base.specs.Sets.{has}
-use Rattle.kt_fifo.specs.Channels.{ChannelLists, channel}
 use Rattle.kt_spacetime.specs.declared.names.InstName.{InstName}
 use Rattle.kt_tables.specs.Peers.{find_label, label_of, LabelTable}
 use Rattle.kt_tables.specs.Calls.{Call}
@@ -15,14 +15,16 @@ use Rattle.kt_machine.specs.Seen.{SeenProcess}
 use Rattle.kt_process.specs.ProcessStates.{ProcessState, ProcessFits}
 use Rattle.kt_process.specs.Shown.{IsSeenAs}
 use Rattle.kt_manager.specs.Nodes.{NodeState}
-use Rattle.kt_node.specs.Managers.{ManagerState, IsSoundManager, lists_to, no_name, ShowsNode, HoldsFor}
-use Rattle.kt_node.specs.Erasing.{erased_parcels}
-use Rattle.kt_node.specs.Links.{NodeLinks, ShowsLinks}
+use Rattle.kt_manager.specs.Managers.{as_parcels}
+use Rattle.kt_manager.specs.Messages.{Messages, no_messages}
+use Rattle.kt_manager.specs.Inboxes.{InboxLists, processes_of, messages_of, kept_of, held_of}
+use Rattle.kt_node.specs.Managers.{ManagerState, IsSoundManager, ShowsNode}
+use Rattle.kt_node.specs.Links.{NodeLinks}
 use Rattle.kt_node.specs.Reaches.{HasReaches}
 use Rattle.kt_node.specs.declared.reach.Reaches.{Reaches}
-use Rattle.kt_node_text.specs.Form.{of_list, counted, of_parcel, of_lists, of_process, of_name, of_manager, of_reaches, numbers_of}
+use Rattle.kt_node_text.specs.Form.{of_list, counted, of_item, of_lists, of_process, of_name, of_manager, numbers_of}
 use Rattle.kt_node_text.specs.Sameness.{IsSound, IsSameState}
-use Rattle.kt_node_text.proofs.OneForm.{Numbers, same_head, same_tail, one_list, one_counted, one_parcel, one_gather}
+use Rattle.kt_node_text.proofs.OneForm.{Numbers, same_head, same_tail, one_list, one_counted, one_item, one_gather}
 use Rattle.kt_node_text.proofs.Parts.{AreSameTables, IsSameProcess, behind, one_name, one_process, one_reaches}
 
 labels_same : (t u : LabelTable) (q x : ℕ) → t.pairs ≡ u.pairs → label_of t q ≡ x → label_of u q ≡ x
@@ -52,15 +54,21 @@ process_same x z y h f g s = record {
   used = sym h.used ∙ s.used;
 }
 
-past_all : (w : ChannelLists) (q to : ℕ) → w.processes ≤ q → channel w q to ≡ []
-past_all w q to h = grind (arith, nat_tests)
-
-lists_same : (v w : ChannelLists) (n me : ℕ) → v.processes ≡ n → w.processes ≡ n →
-    ((q : ℕ) → q < n → channel v q me ≡ channel w q me) → lists_to v me ≡ lists_to w me
-lists_same v w n me a b h = fun_ext (λ q. ap (erased_parcels no_name) (elim (cases_lt q n) [
+-- lists that are empty from the same process on are the same where those before it are
+lists_same : (u v : Lists) (n : ℕ) → ((q : ℕ) → n ≤ q → u q ≡ []) → ((q : ℕ) → n ≤ q → v q ≡ []) → ((q : ℕ) → q < n → u q ≡ v q) → u ≡ v
+lists_same u v n a b h = fun_ext (λ q. elim (cases_lt q n) [
   | inl less ↦ h q less
-  | inr more ↦ past_all v q me (omega arith) ∙ sym (past_all w q me (omega arith))
-]))
+  | inr more ↦ a q more ∙ sym (b q more)
+])
+
+none_past : (b : InboxLists) (n q : ℕ) → processes_of b ≡ n → n ≤ q → messages_of b q ≡ no_messages
+none_past b n q e more = get_or_past b.senders q no_messages (omega (arith, e))
+
+held_past : (b : InboxLists) (n q : ℕ) → processes_of b ≡ n → n ≤ q → held_of b q ≡ []
+held_past b n q e more = ap (λ (m : Messages). m.held) (none_past b n q e more)
+
+kept_past : (b : InboxLists) (n q : ℕ) → processes_of b ≡ n → n ≤ q → kept_of b q ≡ []
+kept_past b n q e more = ap (λ (m : Messages). m.kept) (none_past b n q e more)
 
 -- two managers, but for room
 record IsSameBut (a b : ManagerState) : Type 0 where
@@ -69,18 +77,15 @@ record IsSameBut (a b : ManagerState) : Type 0 where
   begun : a.begun ≡ b.begun
   inst : a.inst ≡ b.inst
   process : IsSameProcess a.process b.process
-  held : lists_to a.held a.me ≡ lists_to b.held b.me
-  kept : lists_to a.kept a.me ≡ lists_to b.kept b.me
+  held : held_of a.inbox ≡ held_of b.inbox
+  kept : kept_of a.inbox ≡ kept_of b.inbox
   asks : a.asks ≡ b.asks
   answered : a.answered ≡ b.answered
 
--- the lists to one process, where numbers and size are the same
-one_lists : (v w : ChannelLists) (m n p q : ℕ) (r s : Numbers) → m ≡ n → p ≡ q → v.processes ≡ m → w.processes ≡ n →
-    of_lists m p v ++ r ≡ of_lists n q w ++ s → (lists_to v p ≡ lists_to w q) × (r ≡ s)
-one_lists v w m n p q r s sizes mes a b e =
-    let e1 : of_lists m p v ++ r ≡ of_lists m p w ++ s = e ∙ (λ i. of_lists (sym sizes i) (sym mes i) w ++ s) in
-    let g = one_gather (counted of_parcel) (one_counted of_parcel one_parcel) m (λ x. channel v x p) (λ x. channel w x p) r s e1 in
-    (lists_same v w m p a (b ∙ sym sizes) g.0 ∙ ap (λ (x : ℕ). lists_to w x) mes, g.1)
+-- messages of n processes, where their numbers are the same
+one_lists : (u v : Lists) (m n : ℕ) (r s : Numbers) → m ≡ n → of_lists m u ++ r ≡ of_lists n v ++ s → ((q : ℕ) → q < n → u q ≡ v q) × (r ≡ s)
+one_lists u v m n r s sizes e =
+    one_gather (counted of_item) (one_counted of_item one_item) n u v r s ((λ i. of_lists (sym sizes i) u ++ r) ∙ e)
 
 one_manager : (a b : ManagerState) (r s : Numbers) → IsSoundManager a → IsSoundManager b → of_manager a ++ r ≡ of_manager b ++ s → IsSameBut a b × (r ≡ s)
 one_manager a b r s f g e =
@@ -92,11 +97,13 @@ one_manager a b r s f g e =
     let e3 = same_tail _ _ _ _ e2 in
     let inst = one_name a.inst b.inst _ _ (behind (of_name a.inst) _ r (of_name b.inst) _ s e3) in
     let process = one_process a.process b.process _ _ (behind (of_process a.process) _ r (of_process b.process) _ s inst.1) in
-    let held = one_lists a.held b.held a.size b.size a.me b.me _ _ size me f.held g.held (behind (of_lists a.size a.me a.held) _ r (of_lists b.size b.me b.held) _ s process.1) in
-    let kept = one_lists a.kept b.kept a.size b.size a.me b.me _ _ size me f.kept g.kept (behind (of_lists a.size a.me a.kept) _ r (of_lists b.size b.me b.kept) _ s held.1) in
+    let held = one_lists (held_of a.inbox) (held_of b.inbox) a.size b.size _ _ size (behind (of_lists a.size (held_of a.inbox)) _ r (of_lists b.size (held_of b.inbox)) _ s process.1) in
+    let kept = one_lists (kept_of a.inbox) (kept_of b.inbox) a.size b.size _ _ size (behind (of_lists a.size (kept_of a.inbox)) _ r (of_lists b.size (kept_of b.inbox)) _ s held.1) in
+    let same_held = lists_same (held_of a.inbox) (held_of b.inbox) b.size (λ q more. held_past a.inbox b.size q (f.inbox ∙ size) more) (λ q more. held_past b.inbox b.size q g.inbox more) held.0 in
+    let same_kept = lists_same (kept_of a.inbox) (kept_of b.inbox) b.size (λ q more. kept_past a.inbox b.size q (f.inbox ∙ size) more) (λ q more. kept_past b.inbox b.size q g.inbox more) kept.0 in
     let asks = one_counted of_name one_name a.asks b.asks _ _ (behind (counted of_name a.asks) _ r (counted of_name b.asks) _ s kept.1) in
     let answered : a.answered ≡ b.answered = same_head _ _ _ _ asks.1 in
-    (record { size = size; me = me; begun = begun; inst = inst.0; process = process.0; held = held.0; kept = kept.0; asks = asks.0; answered = answered }, same_tail _ _ _ _ asks.1)
+    (record { size = size; me = me; begun = begun; inst = inst.0; process = process.0; held = same_held; kept = same_kept; asks = asks.0; answered = answered }, same_tail _ _ _ _ asks.1)
 
 shows_same : (a b : ManagerState) (y : NodeState) → IsSameBut a b → ProcessFits a.process → ProcessFits b.process → ShowsNode a y → ShowsNode b y
 shows_same a b y h f g s = record {
@@ -104,8 +111,8 @@ shows_same a b y h f g s = record {
     processes = sym h.size ∙ s.holds.processes;
     me = sym h.me ∙ s.holds.me;
     begun = sym h.begun ∙ s.holds.begun;
-    held = sym h.held ∙ s.holds.held;
-    kept = sym h.kept ∙ s.holds.kept;
+    held = ap as_parcels (sym h.held) ∙ s.holds.held;
+    kept = ap as_parcels (sym h.kept) ∙ s.holds.kept;
     asks = λ q. ap (λ (l : List (Option InstName)). slice_index_or l q None) (sym h.asks) ∙ s.holds.asks q;
   };
   process = process_same a.process b.process _ h.process f g s.process;

@@ -3,17 +3,14 @@ use Rattle.std.specs.Prelude.{ℕ, zero, suc, ◌+◌, ℤ, pos, negsuc, Bool, t
 use Rattle.std.specs.List.{flat_map}
 use Rattle.std.specs.Int.{w64, to_le_bytes}
 use Rattle.kt_checksum.specs.Checksums.{sealed}
-use Rattle.kt_base.specs.declared.words.Kind.{Kind}
-use Rattle.kt_base.specs.declared.words.Kind.TheVariants.{Checkpoint, Rollback}
-use Rattle.kt_fifo.specs.Channels.{ChannelLists, channel}
-use Rattle.kt_fifo.specs.declared.parcels.Parcel.{Parcel}
-use Rattle.kt_fifo.specs.declared.parcels.Parcel.TheVariants.{App, Ask, Reply, Decide}
 use Rattle.kt_tables.specs.States.{State}
 use Rattle.kt_process.specs.Parts.{Part}
 use Rattle.kt_process.specs.ProcessStates.{ProcessState}
 use Rattle.kt_process.specs.declared.side.Side.{Side}
 use Rattle.kt_process.specs.declared.side.Side.TheVariants as side
 use Rattle.kt_spacetime.specs.declared.names.InstName.{InstName}
+use Rattle.kt_manager.specs.declared.received.Item.{Item}
+use Rattle.kt_manager.specs.Inboxes.{kept_of, held_of}
 use Rattle.kt_node.specs.declared.reach.Reach.{Reach}
 use Rattle.kt_node.specs.declared.reach.Reaches.{Reaches}
 use Rattle.kt_node.specs.Managers.{ManagerState}
@@ -56,19 +53,13 @@ abbrev pub of_body : ℤ → List ℕ
 of_body (pos n) = 0 ∷ n ∷ []
 of_body (negsuc n) = 1 ∷ (n + 1) ∷ []
 
-abbrev pub of_kind : Kind → ℕ
-of_kind Checkpoint = 0
-of_kind Rollback = 1
+-- a message: a parcel of the kind 0, with the number 1
+abbrev pub of_item : Item → List ℕ
+of_item x = 0 ∷ x.label ∷ 1 ∷ of_body x.body
 
-abbrev pub of_parcel : Parcel → List ℕ
-of_parcel (App label msg body) = 0 ∷ label ∷ msg ∷ of_body body
-of_parcel (Ask inst kind label) = 1 ∷ inst ∷ of_kind kind ∷ label ∷ []
-of_parcel (Reply inst willing) = 2 ∷ inst ∷ of_flag willing ∷ []
-of_parcel (Decide inst commit) = 3 ∷ inst ∷ of_flag commit ∷ []
-
--- the lists to one of n processes, by sender
-abbrev pub of_lists : ℕ → ℕ → ChannelLists → List ℕ
-of_lists n to w = gather n (λ q. counted of_parcel (channel w q to))
+-- the messages of n processes, by sender
+abbrev pub of_lists : ℕ → (ℕ → List Item) → List ℕ
+of_lists n lists = gather n (λ q. counted of_item (lists q))
 
 abbrev pub of_tables : State → List ℕ
 of_tables t = counted of_pair t.last_rcvd.pairs
@@ -96,8 +87,8 @@ of_name (Some k) = 1 ∷ k.initiator ∷ k.count ∷ []
 abbrev pub of_manager : ManagerState → List ℕ
 of_manager w = w.size ∷ w.me ∷ w.begun ∷ of_name w.inst
     ++ (of_process w.process
-    ++ (of_lists w.size w.me w.held
-    ++ (of_lists w.size w.me w.kept
+    ++ (of_lists w.size (held_of w.inbox)
+    ++ (of_lists w.size (kept_of w.inbox)
     ++ (counted of_name w.asks
     ++ w.answered ∷ []))))
 

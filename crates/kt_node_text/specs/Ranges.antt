@@ -1,10 +1,7 @@
 -- Which values there are: their numbers are in range, and lists are as long as they have to be.
 use Rattle.std.specs.Prelude.{◌≡◌, ℕ, ◌<◌, ◌^◌, Option, Some, None, IfSome, List, length, FitsSigned, All}
 use Rattle.std.specs.Int.{w64}
-use Rattle.kt_base.specs.Numbers.{IsProcNo, IsLabel, IsMsgNo, IsInstNo}
-use Rattle.kt_fifo.specs.Channels.{ChannelLists, channel}
-use Rattle.kt_fifo.specs.declared.parcels.Parcel.{Parcel}
-use Rattle.kt_fifo.specs.declared.parcels.Parcel.TheVariants.{App, Ask, Reply, Decide}
+use Rattle.kt_base.specs.Numbers.{IsProcNo, IsLabel, IsInstNo}
 use Rattle.kt_tables.specs.Peers.{IsTable}
 use Rattle.kt_tables.specs.States.{State}
 use Rattle.kt_process.specs.Notes.{AreNotes}
@@ -15,6 +12,8 @@ use Rattle.kt_process.specs.declared.side.Side.{Side}
 use Rattle.kt_process.specs.declared.side.Side.TheVariants as side
 use Rattle.kt_spacetime.specs.Counts.{IsCount}
 use Rattle.kt_spacetime.specs.declared.names.InstName.{InstName}
+use Rattle.kt_manager.specs.declared.received.Item.{Item}
+use Rattle.kt_manager.specs.Inboxes.{kept_of, held_of}
 use Rattle.kt_node.specs.declared.reach.Reaches.{Reaches}
 use Rattle.kt_node.specs.Managers.{ManagerState}
 use Rattle.kt_node.specs.Links.{NodeLinks}
@@ -23,11 +22,9 @@ use Rattle.kt_node.specs.Links.{NodeLinks}
 abbrev pub IsPair : ℕ × ℕ → Type 0
 IsPair x = IsProcNo x.0 × IsLabel x.1
 
-abbrev pub IsParcel : Parcel → Type 0
-IsParcel (App label msg body) = IsLabel label × IsMsgNo msg × FitsSigned w64 body
-IsParcel (Ask inst kind label) = IsInstNo inst × IsLabel label
-IsParcel (Reply inst willing) = IsInstNo inst
-IsParcel (Decide inst commit) = IsInstNo inst
+-- a message
+abbrev pub IsItem : Item → Type 0
+IsItem x = IsCount x.label × FitsSigned w64 x.body
 
 -- the name of an instance
 abbrev pub IsName : InstName → Type 0
@@ -72,15 +69,15 @@ pub record IsProcess (x : ProcessState) : Type 0 where
   pub side : IsSide x.side
   pub tables : IsState x.tables
 
--- the lists to one of n processes
-abbrev pub AreLists : ℕ → ℕ → ChannelLists → Type 0
-AreLists n to w = (q : ℕ) → q < n → All IsParcel (channel w q to)
+-- the messages of n processes
+abbrev pub AreLists : ℕ → (ℕ → List Item) → Type 0
+AreLists n lists = (q : ℕ) → q < n → All IsItem (lists q)
 
 pub record IsManager (w : ManagerState) : Type 0 where
   pub inst : IsNameIfAny w.inst
   pub process : IsProcess w.process
-  pub held : AreLists w.size w.me w.held
-  pub kept : AreLists w.size w.me w.kept
+  pub held : AreLists w.size (held_of w.inbox)
+  pub kept : AreLists w.size (kept_of w.inbox)
   pub asks : All IsNameIfAny w.asks
   pub many : length w.asks ≡ 64
 

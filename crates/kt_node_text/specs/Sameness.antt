@@ -1,8 +1,9 @@
 -- What is so of each node, and when two are the same but for room.
-use Rattle.std.specs.Prelude.{◌≡◌, ◌<◌, ◌^◌, ℕ, List, All}
+use Rattle.std.specs.Prelude.{◌≡◌, ◌<◌, ◌^◌, All}
 use Rattle.kt_manager.specs.Nodes.{NodeState}
 use Rattle.kt_process.specs.ProcessStates.{ProcessFits}
-use Rattle.kt_node.specs.Managers.{IsSoundManager, lists_to}
+use Rattle.kt_manager.specs.Inboxes.{held_of}
+use Rattle.kt_node.specs.Managers.{IsSoundManager}
 use Rattle.kt_node.specs.Links.{NodeLinks, AreCounted, ShowsLinks}
 use Rattle.kt_node.specs.OwnParts.{HasOwnPart}
 use Rattle.kt_node_text.specs.Form.{numbers_of}
@@ -31,4 +32,4 @@ pub record IsSameState (w v : NodeLinks) : Type 0 where
   pub reaches : v.reaches ≡ w.reaches
   pub me : v.manager.me ≡ w.manager.me
   pub used : v.manager.process.used ≡ w.manager.process.used
-  pub held : lists_to v.manager.held v.manager.me ≡ lists_to w.manager.held w.manager.me
+  pub held : held_of v.manager.inbox ≡ held_of w.manager.inbox

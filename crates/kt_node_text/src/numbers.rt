@@ -2,16 +2,16 @@
 
 ghost use Rattle.std.specs.Prelude.{◌≡◌, ◌<◌, ◌≤◌, ◌∷◌, ◌++◌, ℕ, ℤ, Bool, Option, List, length, All, FitsSigned, IfOk, IfErr, IfSome, IsErrOf};
 ghost use Rattle.std.specs.Int.{w64};
-ghost use Rattle.kt_base.specs.Numbers.{IsProcNo, IsLabel, IsInstNo, IsMsgNo};
-ghost use Rattle.kt_base.specs.declared.words.Kind.{Kind as kinds};
+ghost use Rattle.kt_base.specs.Numbers.{IsProcNo, IsLabel, IsInstNo};
+ghost use Rattle.kt_spacetime.specs.Counts.{IsCount};
 ghost use Rattle.kt_spacetime.specs.declared.names.InstName.{InstName};
-ghost use Rattle.kt_node_text.specs.Form.{of_flag, of_optional, of_kind, of_body, of_name, of_list, of_pair, counted};
+ghost use Rattle.kt_node_text.specs.Form.{of_flag, of_optional, of_body, of_name, of_list, of_pair, counted};
 ghost use Rattle.kt_node_text.specs.Ranges.{IsPair, IsName, IsNameIfAny, IsRow};
 ghost use Rattle.kt_node_text.specs.Reading.{IsRead, IsReadAs};
 ghost use Rattle.kt_node_text.specs.declared.fault.LoadFault.TheVariants as fault;
 
 use crate::fault::LoadFault;
-use kt_base::{InstNo, Kind, Label, MsgNo, ProcNo};
+use kt_base::{InstNo, Label, ProcNo};
 use kt_spacetime::{Count, InstName};
 use std::alloc::Global;
 
@@ -27,6 +27,13 @@ impl<'a> Numbers<'a> {
         ensures { result.rest.now ≡ rest.now }
     {
         Numbers { rest }
+    }
+
+    /// The same numbers, to be read once more.
+    pub(crate) fn again(&self) -> Numbers<'a>
+        ensures { result.rest.now ≡ self.now.rest.now }
+    {
+        Numbers { rest: self.rest }
     }
 
     /// The next number.
@@ -129,26 +136,14 @@ impl<'a> Numbers<'a> {
         InstNo::new(number as u16).ok_or(LoadFault::Form)
     }
 
-    /// A message.
-    pub(crate) fn message(&mut self) -> Result<MsgNo, LoadFault>
-        ensures read { (m : ℕ) (after : List ℕ) → IsMsgNo m → self.old.rest.now ≡ m ∷ after →
-            IsRead m after result self.new.rest.now }
+    /// Which one it is of those that a process sent or began.
+    pub(crate) fn count_of_one(&mut self) -> Result<Count, LoadFault>
+        ensures read { (n : ℕ) (after : List ℕ) → IsCount n → self.old.rest.now ≡ n ∷ after →
+            IsRead n after result self.new.rest.now }
         ensures form { IfErr result (λ f. f ≡ fault.Form) }
     {
-        let number = self.up_to(16_777_216)?;
-        MsgNo::new(number as u32).ok_or(LoadFault::Form)
-    }
-
-    /// A kind of instance.
-    pub(crate) fn kind(&mut self) -> Result<Kind, LoadFault>
-        ensures read { (k : kinds) (after : List ℕ) → self.old.rest.now ≡ of_kind k ∷ after →
-            IsRead k after result self.new.rest.now }
-        ensures form { IfErr result (λ f. f ≡ fault.Form) }
-    {
-        match self.up_to(1)? {
-            0 => Ok(Kind::Checkpoint),
-            _ => Ok(Kind::Rollback),
-        }
+        let number = self.next()?;
+        Count::new(number).ok_or(LoadFault::Form)
     }
 
     /// A body, after whether it is negative.

@@ -24,7 +24,7 @@ use std::alloc::Global;
 mod lists;
 mod processes;
 
-use lists::lists;
+use lists::inbox;
 use processes::process;
 
 /// Which process of how many.
@@ -55,8 +55,7 @@ fn manager(alloc: Global, numbers: &mut Numbers) -> Result<Manager, LoadFault>
     let begun = numbers.next()?;
     let inst = numbers.name()?;
     let process = process(alloc, size, numbers)?;
-    let held = lists(alloc, size, me, numbers)?;
-    let kept = lists(alloc, size, me, numbers)?;
+    let inbox = inbox(alloc, size, numbers)?;
     let asks = numbers.names()?;
     let answered = set_of(numbers.next()?);
     let parts = ManagerParts {
@@ -64,8 +63,7 @@ fn manager(alloc: Global, numbers: &mut Numbers) -> Result<Manager, LoadFault>
         process,
         inst,
         begun,
-        held,
-        kept,
+        inbox,
         asks,
         answered,
     };

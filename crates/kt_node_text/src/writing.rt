@@ -1,20 +1,20 @@
 //! A node as numbers.
 
-ghost use Rattle.std.specs.Prelude.{◌≡◌, ◌<◌, ◌++◌, ◌∷◌, [], All, IfSome, IfOk, OnOk};
+ghost use Rattle.std.specs.Prelude.{◌≡◌, ◌<◌, ◌++◌, ◌∷◌, All, IfSome, IfOk, OnOk};
 ghost use Rattle.std.specs.Option.{option_copied};
-ghost use Rattle.kt_node_text.specs.Form.{of_optional, of_flag, of_list, counted, of_pair, of_body, of_kind, of_parcel, of_lists, of_tables, of_part, of_side, of_process, of_name, of_manager, of_reach, of_reaches, numbers_of};
+ghost use Rattle.kt_node_text.specs.Form.{of_optional, of_flag, of_list, counted, of_pair, of_item, of_lists, of_tables, of_part, of_side, of_process, of_name, of_manager, of_reach, of_reaches, numbers_of};
 ghost use Rattle.kt_base.specs.Numbers.{IsProcNo};
-ghost use Rattle.kt_node_text.specs.Ranges.{IsPair, IsPart, IsSide, IsState, IsProcess, IsNameIfAny, IsParcel, AreLists, IsManager, IsRow, AreReaches, IsNode};
+ghost use Rattle.kt_node_text.specs.Ranges.{IsPair, IsPart, IsSide, IsState, IsProcess, IsNameIfAny, IsItem, AreLists, IsManager, IsRow, AreReaches, IsNode};
 ghost use Rattle.kt_node_text.specs.Sameness.{IsSound};
 ghost use Rattle.kt_process.specs.ProcessStates.{ProcessFits};
 ghost use Rattle.kt_node.specs.Managers.{IsSoundManager};
 ghost use Rattle.kt_node.specs.Links.{AreCounted};
-ghost use Rattle.kt_fifo.specs.Channels.{channel};
+ghost use Rattle.kt_manager.specs.Inboxes.{processes_of, kept_of, held_of};
 
 use crate::bytes::words_fit;
 use crate::sets::bits_of;
-use kt_base::{Kind, Label, Memory, ProcNo};
-use kt_fifo::{Channels, Parcel};
+use kt_base::{Label, Memory, ProcNo};
+use kt_manager::{Inbox, Item};
 use kt_node::{Manager, Node, Reach, Reaches};
 use kt_process::{Part, Process, Side};
 use kt_spacetime::InstName;
@@ -32,16 +32,6 @@ fn optional(process: Option<ProcNo>) -> u64
     match process {
         Some(process) => u64::from(process.get()) + 1,
         None => 0,
-    }
-}
-
-/// The number of a kind.
-fn kind_number(kind: Kind) -> u64
-    ensures { result ≡ of_kind kind }
-{
-    match kind {
-        Kind::Checkpoint => 0,
-        Kind::Rollback => 1,
     }
 }
 
@@ -165,62 +155,76 @@ fn put_names(out: &mut Vec<u64>, names: &[Option<InstName>]) -> Result<(), Memor
     Ok(())
 }
 
-/// Adds a parcel.
-fn put_parcel(out: &mut Vec<u64>, parcel: &Parcel) -> Result<(), Memory>
-    ensures numbers { OnOk result (out.new.items ≡ out.old.items ++ of_parcel parcel.now) }
-    ensures range { OnOk result (IsParcel parcel.now) }
+/// Adds a message.
+fn put_item(out: &mut Vec<u64>, item: &Item) -> Result<(), Memory>
+    ensures numbers { OnOk result (out.new.items ≡ out.old.items ++ of_item item.now) }
+    ensures range { OnOk result (IsItem item.now) }
 {
-    match parcel {
-        Parcel::App { label, msg, body } => out.extend_from_slice(&[
-            0,
-            label.get(),
-            u64::from(msg.get()),
-            u64::from(*body < 0),
-            body.unsigned_abs(),
-        ])?,
-        Parcel::Ask { inst, kind, label } => out.extend_from_slice(&[
-            1,
-            u64::from(inst.get()),
-            kind_number(*kind),
-            label.get(),
-        ])?,
-        Parcel::Reply { inst, willing } => {
-            out.extend_from_slice(&[2, u64::from(inst.get()), u64::from(*willing)])?;
-        }
-        Parcel::Decide { inst, commit } => {
-            out.extend_from_slice(&[3, u64::from(inst.get()), u64::from(*commit)])?;
-        }
-    }
+    out.extend_from_slice(&[
+        0,
+        item.label.get(),
+        1,
+        u64::from(item.body < 0),
+        item.body.unsigned_abs(),
+    ])?;
     Ok(())
 }
 
-/// Adds the list from one process to another.
-fn put_parcels(out: &mut Vec<u64>, lists: &Channels, from: ProcNo, to: ProcNo) -> Result<(), Memory>
-    requires from { from < lists.now.processes }
-    requires to { to < lists.now.processes }
+/// Adds the messages that are kept of a process.
+fn put_kept(out: &mut Vec<u64>, inbox: &Inbox, from: ProcNo) -> Result<(), Memory>
+    requires { from < processes_of inbox.now }
     ensures numbers { OnOk result (out.new.items
-        ≡ out.old.items ++ counted of_parcel (channel lists.now from to)) }
-    ensures range { OnOk result (All IsParcel (channel lists.now from to)) }
+        ≡ out.old.items ++ counted of_item (kept_of inbox.now from)) }
+    ensures range { OnOk result (All IsItem (kept_of inbox.now from)) }
 {
-    let count = lists.len(from, to);
+    let count = inbox.kept_count(from);
     out.push(count as u64)?;
     for place in 0..count {
-        if let Some(parcel) = lists.get(from, to, place) {
-            put_parcel(out, parcel)?;
+        if let Some(item) = inbox.get(from, place) {
+            put_item(out, item)?;
         }
     }
     Ok(())
 }
 
-/// Adds the lists to a process of so many.
-fn put_lists(out: &mut Vec<u64>, lists: &Channels, to: ProcNo) -> Result<(), Memory>
-    requires { to < lists.now.processes }
+/// Adds the messages that are held of a process.
+fn put_held(out: &mut Vec<u64>, inbox: &Inbox, from: ProcNo) -> Result<(), Memory>
+    requires { from < processes_of inbox.now }
     ensures numbers { OnOk result (out.new.items
-        ≡ out.old.items ++ of_lists lists.now.processes to lists.now) }
-    ensures range { OnOk result (AreLists lists.now.processes to lists.now) }
+        ≡ out.old.items ++ counted of_item (held_of inbox.now from)) }
+    ensures range { OnOk result (All IsItem (held_of inbox.now from)) }
 {
-    for number in 0..lists.processes() as u8 {
-        put_parcels(out, lists, ProcNo::nth(number), to)?;
+    let kept = inbox.kept_count(from);
+    let count = inbox.len(from) - kept;
+    out.push(count as u64)?;
+    for place in 0..count {
+        if let Some(item) = inbox.get(from, kept + place) {
+            put_item(out, item)?;
+        }
+    }
+    Ok(())
+}
+
+/// Adds the messages that are held of each process.
+fn put_all_held(out: &mut Vec<u64>, inbox: &Inbox) -> Result<(), Memory>
+    ensures numbers { OnOk result (out.new.items
+        ≡ out.old.items ++ of_lists (processes_of inbox.now) (held_of inbox.now)) }
+    ensures range { OnOk result (AreLists (processes_of inbox.now) (held_of inbox.now)) }
+{
+    for number in 0..inbox.processes() as u8 {
+        put_held(out, inbox, ProcNo::nth(number))?;
+    }
+    Ok(())
+}
+
+/// Adds the messages that are kept of each process.
+fn put_all_kept(out: &mut Vec<u64>, inbox: &Inbox) -> Result<(), Memory>
+    ensures numbers { OnOk result (out.new.items
+        ≡ out.old.items ++ of_lists (processes_of inbox.now) (kept_of inbox.now)) }
+    ensures range { OnOk result (AreLists (processes_of inbox.now) (kept_of inbox.now)) }
+{
+    for number in 0..inbox.processes() as u8 {
+        put_kept(out, inbox, ProcNo::nth(number))?;
     }
     Ok(())
 }
@@ -230,16 +234,15 @@ fn put_manager(out: &mut Vec<u64>, manager: &Manager) -> Result<(), Memory>
     ensures numbers { OnOk result (out.new.items ≡ out.old.items ++ of_manager manager.now) }
     ensures range { OnOk result (IsManager manager.now) }
 {
-    let me = manager.me();
     out.extend_from_slice(&[
         manager.size() as u64,
-        u64::from(me.get()),
+        u64::from(manager.me().get()),
         manager.begun_count(),
     ])?;
     put_name(out, manager.in_inst())?;
     put_process(out, manager.process())?;
-    put_lists(out, manager.held(), me)?;
-    put_lists(out, manager.kept(), me)?;
+    put_all_held(out, manager.inbox())?;
+    put_all_kept(out, manager.inbox())?;
     put_names(out, manager.asks())?;
     out.push(bits_of(manager.answered()))?;
     Ok(())

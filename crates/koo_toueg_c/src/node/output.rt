@@ -1,15 +1,14 @@
 //! What a step puts out, in numbers.
 
-ghost use Rattle.std.specs.Prelude.{◌≡◌, ◌<◌, ℕ, map, slice_get, Some};
-ghost use Rattle.koo_toueg_c.specs.NodeNumbers.{act_numbers, no_act, no_output, or_one_more, output_of_refusal, output_too_long, parcel_numbers, row_numbers};
+ghost use Rattle.std.specs.Prelude.{◌≡◌, ◌<◌, ℕ, slice_get, Some};
+ghost use Rattle.koo_toueg_c.specs.NodeNumbers.{act_numbers, act_told, no_act, no_output, or_one_more, output_of_refusal, output_too_long, parcel_numbers, row_numbers};
 ghost use Rattle.koo_toueg_c.specs.Nodes.{TellsOutput, parcel_for};
 
 use crate::node::parcel::KtParcel;
 use crate::node::refusal::Refusal;
 use crate::node::row::KtRow;
-use crate::node::stepping::Step;
 use kt_base::ProcNo;
-use kt_node::Output;
+use kt_node::{Node, Output, Parcels};
 use kt_plan::Act;
 use kt_spacetime::NamedEvent;
 
@@ -71,8 +70,18 @@ impl KtAct {
         }
     }
 
+    // An act in numbers, or nothing.
+    fn of(act: Option<Act>) -> KtAct
+        ensures { result ≡ act_told act }
+    {
+        match act {
+            Some(act) => KtAct::told(&act),
+            None => KtAct::none(),
+        }
+    }
+
     // An act in numbers.
-    fn of(act: &Act) -> KtAct
+    fn told(act: &Act) -> KtAct
         ensures { result ≡ act_numbers act.now }
     {
         let kind = match act {
@@ -118,46 +127,45 @@ impl KtOutput {
         }
     }
 
-    /// Why there is no step.
-    pub(crate) fn of_refusal(why: &Refusal) -> KtOutput
-        ensures { result ≡ output_of_refusal why.now }
+    /// Nothing.
+    pub(crate) fn clear(&mut self)
+        ensures { self.new ≡ no_output }
     {
-        KtOutput {
-            fault: why.number(),
-            expected: why.expected(),
-            ..KtOutput::none()
-        }
+        *self = KtOutput::none();
+    }
+
+    /// Why there is no step.
+    pub(crate) fn tell_refusal(&mut self, why: &Refusal)
+        ensures { self.new ≡ output_of_refusal why.now }
+    {
+        self.clear();
+        self.fault = why.number();
+        self.expected = why.expected();
     }
 
     /// How many bytes a state would take.
-    pub(crate) fn too_long(needed: usize) -> KtOutput
-        ensures { result ≡ output_too_long needed }
+    pub(crate) fn tell_needed(&mut self, needed: usize)
+        ensures { self.new ≡ output_too_long needed }
     {
-        KtOutput {
-            needed: needed as u64,
-            ..KtOutput::none()
-        }
+        self.clear();
+        self.needed = needed as u64;
     }
 
     /// What a step puts out, and how its node stands by then.
-    pub(crate) fn of(step: &Step) -> KtOutput
-        ensures { TellsOutput step.now.node step.now.output result }
+    pub(crate) fn tell(&mut self, node: &Node, out: &Output)
+        ensures { TellsOutput node.now out.now self.new }
     {
-        let (output, manager) = (&step.output, step.node.manager());
-        KtOutput {
-            fault: 0,
-            process: u32::from(manager.me().get()),
-            processes: manager.size() as u32,
-            held: or_one_more(manager.next_held()),
-            busy: u32::from(manager.in_inst().is_some()),
-            up: u32::from(manager.is_up()),
-            expected: 0,
-            needed: 0,
-            clock: output.clock,
-            rows: rows_of(&output.effects.rows),
-            acts: acts_of(&output.effects.acts),
-            parcels: parcels_of(output),
-        }
+        self.clear();
+        let manager = node.manager();
+        self.process = u32::from(manager.me().get());
+        self.processes = manager.size() as u32;
+        self.held = or_one_more(manager.next_held());
+        self.busy = u32::from(manager.in_inst().is_some());
+        self.up = u32::from(manager.is_up());
+        self.clock = out.clock;
+        tell_rows(&mut self.rows, out.effects.rows());
+        tell_acts(&mut self.acts, out.effects.acts());
+        tell_parcels(&mut self.parcels, out);
     }
 }
 
@@ -171,36 +179,51 @@ fn or_one_more(process: Option<ProcNo>) -> u32
     }
 }
 
-// Rows in numbers.
-fn rows_of(rows: &[Option<NamedEvent>; 4]) -> [KtRow; 4]
-    ensures { result ≡ map row_numbers rows.now }
+// Rows in numbers, in order, and no rows behind them.
+fn tell_rows(told: &mut [KtRow; 4], rows: &[NamedEvent])
+    ensures { (i : ℕ) → i < 4 → slice_get told.new i ≡ Some (row_numbers (slice_get rows.now i)) }
 {
-    let [first, second, third, fourth] = rows;
-    [
-        KtRow::of(first),
-        KtRow::of(second),
-        KtRow::of(third),
-        KtRow::of(fourth),
-    ]
+    for place in 0..4 {
+        told[place] = KtRow::of(rows.get(place).copied());
+    }
 }
 
-// Acts in numbers.
-fn acts_of(acts: &[Act; 2]) -> [KtAct; 2]
-    ensures { result ≡ map act_numbers acts.now }
+// Acts in numbers, in order, and nothing behind them.
+fn tell_acts(told: &mut [KtAct; 2], acts: &[Act])
+    ensures { (i : ℕ) → i < 2 → slice_get told.new i ≡ Some (act_told (slice_get acts.now i)) }
 {
-    let [first, second] = acts;
-    [KtAct::of(first), KtAct::of(second)]
+    for place in 0..2 {
+        told[place] = KtAct::of(acts.get(place).copied());
+    }
 }
 
-// The parcel for each process, in numbers.
-fn parcels_of(output: &Output) -> [KtParcel; 64]
+// The parcel for each process, in numbers, where there was none.
+fn tell_parcels(told: &mut [KtParcel; 64], out: &Output)
+    requires { told.old ≡ no_output.parcels }
     ensures { (q : ℕ) → q < 64 →
-        slice_get result q ≡ Some (parcel_numbers (parcel_for output.now q)) }
+        slice_get told.new q ≡ Some (parcel_numbers (parcel_for out.now q)) }
 {
-    let mut parcels = [KtParcel::none(); 64];
+    match out.effects.parcels() {
+        Parcels::Nothing => {}
+        Parcels::One { to, .. } => told[to.index()] = parcel_to(out, *to),
+        Parcels::Asks { .. } | Parcels::Decisions { .. } => tell_each(told, out),
+    }
+}
+
+// The same, where there may be parcels for many.
+fn tell_each(told: &mut [KtParcel; 64], out: &Output)
+    ensures { (q : ℕ) → q < 64 →
+        slice_get told.new q ≡ Some (parcel_numbers (parcel_for out.now q)) }
+{
     for number in 0..ProcNo::COUNT {
         let to = ProcNo::nth(number);
-        parcels[to.index()] = KtParcel::of(output.to(to));
+        told[to.index()] = parcel_to(out, to);
     }
-    parcels
+}
+
+// The parcel for a process, in numbers.
+fn parcel_to(out: &Output, to: ProcNo) -> KtParcel
+    ensures { result ≡ parcel_numbers (parcel_for out.now to) }
+{
+    KtParcel::of(out.to(to))
 }

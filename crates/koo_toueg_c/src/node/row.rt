@@ -60,12 +60,12 @@ impl KtRow {
     }
 
     /// A row in numbers, or no row.
-    pub(crate) fn of(row: &Option<NamedEvent>) -> KtRow
-        ensures numbers { result ≡ row_numbers row.now }
-        ensures meant { row_meant result ≡ row.now }
+    pub(crate) fn of(row: Option<NamedEvent>) -> KtRow
+        ensures numbers { result ≡ row_numbers row }
+        ensures meant { row_meant result ≡ row }
     {
         match row {
-            Some(event) => KtRow::told(event),
+            Some(event) => KtRow::told(&event),
             None => KtRow::none(),
         }
     }

@@ -17,10 +17,9 @@ use kt_node::{Input, Node, NodeFault, Output, Taken};
 use kt_node_text::{load, save};
 use std::alloc::Global;
 
-/// A step that was made: what it puts out, the node after it, and the bytes of this.
+/// A step that was made: the node after it, and the bytes of this.
 #[derive(Drop)]
 pub(crate) struct Step {
-    pub(crate) output: Output,
     pub(crate) node: Node,
     pub(crate) bytes: Vec<u8>,
 }
@@ -34,36 +33,40 @@ pub(crate) fn bytes_of(alloc: Global, node: &Node) -> Result<Vec<u8>, Memory>
     Ok(bytes)
 }
 
-/// The step of the node that these bytes say, at the input that numbers mean; None where a parcel came before.
+/// The step of the node that these bytes say, at the input that numbers mean, and what it puts out; None where a parcel came
+/// before.
 pub(crate) fn stepped(
     alloc: Global,
     state: &[u8],
     numbers: &KtInput,
+    out: &mut Output,
 ) -> Result<Option<Step>, Refusal>
-    ensures step { IfOk result (IsTaken state.now numbers.now) }
+    ensures step { IfOk result (IsTaken state.now numbers.now out.new) }
     ensures refused { IfErr result (IsNoStep state.now numbers.now) }
 {
     let mut node = load(alloc, state)?;
     let Some(input) = numbers.meant() else {
         return Err(Refusal::Input);
     };
-    match take(alloc, &mut node, &input, numbers.is_able())? {
-        Taken::Step(output) => {
+    match take(alloc, &mut node, &input, numbers.is_able(), out)? {
+        Taken::Step => {
             let bytes = bytes_of(alloc, &node)?;
-            Ok(Some(Step {
-                output,
-                node,
-                bytes,
-            }))
+            Ok(Some(Step { node, bytes }))
         }
         Taken::Again => Ok(None),
     }
 }
 
 // A node takes what comes to it.
-fn take(alloc: Global, node: &mut Node, input: &Input, able: bool) -> Result<Taken, NodeFault>
+fn take(
+    alloc: Global,
+    node: &mut Node,
+    input: &Input,
+    able: bool,
+    out: &mut Output,
+) -> Result<Taken, NodeFault>
     ensures done { (y : NodeState) → ShowsLinks node.old y → IfOk result (λ t. IsUntaken t
-        (IsStep node.old node.new (clock_of input.now) y (input_of able input.now))) }
+        (IsStep node.old node.new (clock_of input.now) y (input_of able input.now) out.new)) }
     ensures next { IfOk result (TakesInOrder node.old node.new input.now) }
     ensures met { IsMetAs (meeting_at node.old input.now) result }
     ensures refused { (y : NodeState) → ShowsNode node.old.manager y →
@@ -75,10 +78,22 @@ fn take(alloc: Global, node: &mut Node, input: &Input, able: bool) -> Result<Tak
         wants_memory y (input_of able input.now) ≡ true }
 {
     match input {
-        Input::Send { to, body } => Ok(Taken::Step(node.send(*to, *body)?)),
-        Input::Begin(kind) => Ok(Taken::Step(node.begin(alloc, *kind, able)?)),
-        Input::Fail => Ok(Taken::Step(node.fail()?)),
-        Input::Redeliver(from) => Ok(Taken::Step(node.redeliver(*from)?)),
-        Input::Deliver { from, envelope } => node.deliver(alloc, *from, able, envelope),
+        Input::Send { to, body } => {
+            node.send(*to, *body, out)?;
+            Ok(Taken::Step)
+        }
+        Input::Begin(kind) => {
+            node.begin(alloc, *kind, able, out)?;
+            Ok(Taken::Step)
+        }
+        Input::Fail => {
+            node.fail(out)?;
+            Ok(Taken::Step)
+        }
+        Input::Redeliver(from) => {
+            node.redeliver(*from, out)?;
+            Ok(Taken::Step)
+        }
+        Input::Deliver { from, envelope } => node.deliver(alloc, *from, able, envelope, out),
     }
 }

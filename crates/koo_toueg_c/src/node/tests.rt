@@ -273,8 +273,10 @@ fn numbers_refusals(rt: HostRuntime) {
         (Refusal::Node(NodeFault::Stale), 15),
         (of_manager(ManagerFault::NotBegun), 16),
     ];
+    let mut output = KtOutput::none();
     for (refusal, number) in &refusals {
         let status = if *number == 12 { 4 } else { 2 };
-        assert!(rt; KtOutput::of_refusal(refusal).fault == *number && refusal.status() == status);
+        output.tell_refusal(refusal);
+        assert!(rt; output.fault == *number && refusal.status() == status);
     }
 }

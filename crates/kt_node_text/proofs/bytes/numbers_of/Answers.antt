@@ -1,4 +1,4 @@
-use Rattle.std.proofs.Common.{◌≡◌, ◌∙◌, [], ◌∷◌, ◌++◌, ◌<◌, ℕ, List, length, take, drop, arith, sym, ap, rules}
+use Rattle.std.proofs.Common.{◌≡◌, ◌∙◌, [], ◌∷◌, ◌++◌, ℕ, List, take, drop, arith, sym, ap, rules}
 use Rattle.std.proofs.lemmas.List.{take-append-drop}
 use Rattle.kt_node_text.specs.Form.{bytes_of}
 use Rattle.kt_node_text.proofs.Words.{one_more, few_more}

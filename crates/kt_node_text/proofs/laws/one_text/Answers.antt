@@ -1,5 +1,5 @@
 use Rattle.std.proofs.Common.{◌∷◌, ◌++◌, refl}
-use Rattle.std.specs.Int.{w32, w64, to_le_bytes}
+use Rattle.std.specs.Int.{w32, to_le_bytes}
 use Rattle.kt_checksum.specs.Checksums.{checksum}
 use Rattle.kt_node_text.specs.Form.{bytes_of, of_manager, of_list, of_reaches, numbers_of}
 use Rattle.kt_node_text.proofs.Same.{same_numbers}

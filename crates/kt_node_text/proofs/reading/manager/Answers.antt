@@ -1,5 +1,6 @@
 use Rattle.std.proofs.Common.{◌≡◌, ◌∙◌, ◌∷◌, ◌++◌, [], ℕ, List, sym, ap, subst, append_assoc}
-use Rattle.kt_fifo.specs.Channels.{ChannelLists}
+use Rattle.kt_manager.specs.declared.received.Item.{Item}
+use Rattle.kt_manager.specs.Inboxes.{kept_of, held_of}
 use Rattle.kt_node.specs.Managers.{ManagerState}
 use Rattle.kt_node_text.specs.Form.{of_name, of_process, of_lists, of_manager, counted}
 use Rattle.kt_node_text.specs.Ranges.{AreLists}
@@ -12,7 +13,7 @@ abbrev from_asks : ManagerState → List ℕ
 from_asks w = counted of_name w.asks ++ w.answered ∷ []
 
 abbrev lists_of : ManagerState → List ℕ
-lists_of w = of_lists w.size w.me w.held ++ (of_lists w.size w.me w.kept ++ from_asks w)
+lists_of w = of_lists w.size (held_of w.inbox) ++ (of_lists w.size (kept_of w.inbox) ++ from_asks w)
 
 abbrev from_name : ManagerState → List ℕ → List ℕ
 from_name w after = (of_name w.inst ++ (of_process w.process ++ lists_of w)) ++ after
@@ -24,7 +25,7 @@ abbrev behind_kept : ManagerState → List ℕ → List ℕ
 behind_kept w after = counted of_name w.asks ++ (w.answered ∷ after)
 
 abbrev from_held : ManagerState → List ℕ → List ℕ
-from_held w after = of_lists w.size w.me w.held ++ (of_lists w.size w.me w.kept ++ behind_kept w after)
+from_held w after = of_lists w.size (held_of w.inbox) ++ (of_lists w.size (kept_of w.inbox) ++ behind_kept w after)
 
 at_process : (w : ManagerState) (after : List ℕ) → from_name w after ≡ of_name w.inst ++ from_process w after
 at_process w after =
@@ -32,17 +33,17 @@ at_process w after =
 
 at_held : (w : ManagerState) (after : List ℕ) → lists_of w ++ after ≡ from_held w after
 at_held w after =
-    let held = of_lists w.size w.me w.held in
-    let kept = of_lists w.size w.me w.kept in
+    let held = of_lists w.size (held_of w.inbox) in
+    let kept = of_lists w.size (kept_of w.inbox) in
     append_assoc held (kept ++ from_asks w) after
     ∙ ap (λ (l : List ℕ). held ++ l) (append_assoc kept (from_asks w) after ∙ ap (λ (l : List ℕ). kept ++ l) (append_assoc (counted of_name w.asks) (w.answered ∷ []) after))
 
--- the same lists for the same process
-moved : (v : ChannelLists) (m n p q : ℕ) (left after : List ℕ) → m ≡ n → p ≡ q → left ≡ of_lists m p v ++ after → left ≡ of_lists n q v ++ after
-moved v m n p q left after e f h = h ∙ (λ i. of_lists (e i) (f i) v ++ after)
+-- the same messages of as many processes
+moved : (w : ManagerState) (n : ℕ) (left after : List ℕ) → w.size ≡ n → left ≡ from_held w after → left ≡ of_lists n (held_of w.inbox) ++ (of_lists n (kept_of w.inbox) ++ behind_kept w after)
+moved w n left after e h = h ∙ (λ i. of_lists (e i) (held_of w.inbox) ++ (of_lists (e i) (kept_of w.inbox) ++ behind_kept w after))
 
-ranged : (v : ChannelLists) (m n p q : ℕ) → m ≡ n → p ≡ q → AreLists m p v → AreLists n q v
-ranged v m n p q e f h = subst (λ (k : ℕ). AreLists k q v) e (subst (λ (k : ℕ). AreLists m k v) f h)
+ranged : (lists : ℕ → List Item) (m n : ℕ) → m ≡ n → AreLists m lists → AreLists n lists
+ranged lists m n e h = subst (λ (k : ℕ). AreLists k lists) e h
 
 pub returns-in_err-inst-clause-read : goal.returns-in_err-inst-clause-read
 returns-in_err-inst-clause-read c = λ w after sound own fits range e.
@@ -59,30 +60,15 @@ returns-in_err-process-clause-read c = λ w after sound own fits range e.
     stops _ _ _ _ _ c.from_residual-in_err-process.ensures.1
     (c.in_err-process.ensures.read w.process (lists_of w ++ after) fits range.process (sound.tables ∙ size) inst.1)
 
-pub returns-in_err-held-clause-read : goal.returns-in_err-held-clause-read
-returns-in_err-held-clause-read c = λ w after sound own fits range e.
+pub returns-in_err-inbox-clause-read : goal.returns-in_err-inbox-clause-read
+returns-in_err-inbox-clause-read c = λ w after sound own fits range e.
     let place = c.in_ok-size.ensures.read w.size w.me (w.begun ∷ from_name w after) sound.few sound.me e in
     let begun = c.in_ok-begun.ensures.read w.begun (from_name w after) place.1 in
     let inst = c.in_ok-inst.ensures.read w.inst (from_process w after) range.inst (begun.1 ∙ at_process w after) in
     let size : w.size ≡ c.in_ok-size.size = sym (ap (λ (x : ℕ × ℕ). x.0) place.0) in
-    let me : w.me ≡ c.in_ok-size.me = sym (ap (λ (x : ℕ × ℕ). x.1) place.0) in
     let process = c.in_ok-process.ensures.read w.process (lists_of w ++ after) fits range.process (sound.tables ∙ size) inst.1 in
-    stops _ _ _ _ _ c.from_residual-in_err-held.ensures.1
-    (c.in_err-held.ensures.read w.held (of_lists w.size w.me w.kept ++ behind_kept w after) (ranged w.held _ _ _ _ size me range.held)
-    (moved w.held _ _ _ _ _ _ size me (process.1 ∙ at_held w after)))
-
-pub returns-in_err-kept-clause-read : goal.returns-in_err-kept-clause-read
-returns-in_err-kept-clause-read c = λ w after sound own fits range e.
-    let place = c.in_ok-size.ensures.read w.size w.me (w.begun ∷ from_name w after) sound.few sound.me e in
-    let begun = c.in_ok-begun.ensures.read w.begun (from_name w after) place.1 in
-    let inst = c.in_ok-inst.ensures.read w.inst (from_process w after) range.inst (begun.1 ∙ at_process w after) in
-    let size : w.size ≡ c.in_ok-size.size = sym (ap (λ (x : ℕ × ℕ). x.0) place.0) in
-    let me : w.me ≡ c.in_ok-size.me = sym (ap (λ (x : ℕ × ℕ). x.1) place.0) in
-    let process = c.in_ok-process.ensures.read w.process (lists_of w ++ after) fits range.process (sound.tables ∙ size) inst.1 in
-    let held = c.in_ok-held.ensures.read w.held (of_lists w.size w.me w.kept ++ behind_kept w after) (ranged w.held _ _ _ _ size me range.held)
-    (moved w.held _ _ _ _ _ _ size me (process.1 ∙ at_held w after)) in
-    stops _ _ _ _ _ c.from_residual-in_err-kept.ensures.1
-    (c.in_err-kept.ensures.read w.kept (behind_kept w after) (ranged w.kept _ _ _ _ size me range.kept) (moved w.kept _ _ _ _ _ _ size me held.1))
+    stops _ _ _ _ _ c.from_residual-in_err-inbox.ensures.1
+    (c.in_err-inbox.ensures.read (held_of w.inbox) (kept_of w.inbox) (behind_kept w after) (ranged (held_of w.inbox) _ _ size range.held) (ranged (kept_of w.inbox) _ _ size range.kept) (moved w _ _ after size (process.1 ∙ at_held w after)))
 
 pub returns-in_err-asks-clause-read : goal.returns-in_err-asks-clause-read
 returns-in_err-asks-clause-read c = λ w after sound own fits range e.
@@ -90,12 +76,9 @@ returns-in_err-asks-clause-read c = λ w after sound own fits range e.
     let begun = c.in_ok-begun.ensures.read w.begun (from_name w after) place.1 in
     let inst = c.in_ok-inst.ensures.read w.inst (from_process w after) range.inst (begun.1 ∙ at_process w after) in
     let size : w.size ≡ c.in_ok-size.size = sym (ap (λ (x : ℕ × ℕ). x.0) place.0) in
-    let me : w.me ≡ c.in_ok-size.me = sym (ap (λ (x : ℕ × ℕ). x.1) place.0) in
     let process = c.in_ok-process.ensures.read w.process (lists_of w ++ after) fits range.process (sound.tables ∙ size) inst.1 in
-    let held = c.in_ok-held.ensures.read w.held (of_lists w.size w.me w.kept ++ behind_kept w after) (ranged w.held _ _ _ _ size me range.held)
-    (moved w.held _ _ _ _ _ _ size me (process.1 ∙ at_held w after)) in
-    let kept = c.in_ok-kept.ensures.read w.kept (behind_kept w after) (ranged w.kept _ _ _ _ size me range.kept) (moved w.kept _ _ _ _ _ _ size me held.1) in
-    stops _ _ _ _ _ c.from_residual-in_err-asks.ensures.1 (c.in_err-asks.ensures.read w.asks (w.answered ∷ after) range.many range.asks kept.1)
+    let inbox = c.in_ok-inbox.ensures.read (held_of w.inbox) (kept_of w.inbox) (behind_kept w after) (ranged (held_of w.inbox) _ _ size range.held) (ranged (kept_of w.inbox) _ _ size range.kept) (moved w _ _ after size (process.1 ∙ at_held w after)) in
+    stops _ _ _ _ _ c.from_residual-in_err-asks.ensures.1 (c.in_err-asks.ensures.read w.asks (w.answered ∷ after) range.many range.asks inbox.1)
 
 pub returns-in_err-next-clause-read : goal.returns-in_err-next-clause-read
 returns-in_err-next-clause-read c = λ w after sound own fits range e.
@@ -103,12 +86,9 @@ returns-in_err-next-clause-read c = λ w after sound own fits range e.
     let begun = c.in_ok-begun.ensures.read w.begun (from_name w after) place.1 in
     let inst = c.in_ok-inst.ensures.read w.inst (from_process w after) range.inst (begun.1 ∙ at_process w after) in
     let size : w.size ≡ c.in_ok-size.size = sym (ap (λ (x : ℕ × ℕ). x.0) place.0) in
-    let me : w.me ≡ c.in_ok-size.me = sym (ap (λ (x : ℕ × ℕ). x.1) place.0) in
     let process = c.in_ok-process.ensures.read w.process (lists_of w ++ after) fits range.process (sound.tables ∙ size) inst.1 in
-    let held = c.in_ok-held.ensures.read w.held (of_lists w.size w.me w.kept ++ behind_kept w after) (ranged w.held _ _ _ _ size me range.held)
-    (moved w.held _ _ _ _ _ _ size me (process.1 ∙ at_held w after)) in
-    let kept = c.in_ok-kept.ensures.read w.kept (behind_kept w after) (ranged w.kept _ _ _ _ size me range.kept) (moved w.kept _ _ _ _ _ _ size me held.1) in
-    let asks = c.in_ok-asks.ensures.read w.asks (w.answered ∷ after) range.many range.asks kept.1 in
+    let inbox = c.in_ok-inbox.ensures.read (held_of w.inbox) (kept_of w.inbox) (behind_kept w after) (ranged (held_of w.inbox) _ _ size range.held) (ranged (kept_of w.inbox) _ _ size range.kept) (moved w _ _ after size (process.1 ∙ at_held w after)) in
+    let asks = c.in_ok-asks.ensures.read w.asks (w.answered ∷ after) range.many range.asks inbox.1 in
     stops _ _ _ _ _ c.from_residual-in_err-next.ensures.1 (c.in_err-next.ensures.read w.answered after asks.1)
 
 pub returns-clause-read : goal.returns-clause-read
@@ -117,26 +97,21 @@ returns-clause-read c = λ w after sound own fits range e.
     let begun = c.in_ok-begun.ensures.read w.begun (from_name w after) place.1 in
     let inst = c.in_ok-inst.ensures.read w.inst (from_process w after) range.inst (begun.1 ∙ at_process w after) in
     let size : w.size ≡ c.in_ok-size.size = sym (ap (λ (x : ℕ × ℕ). x.0) place.0) in
-    let me : w.me ≡ c.in_ok-size.me = sym (ap (λ (x : ℕ × ℕ). x.1) place.0) in
     let process = c.in_ok-process.ensures.read w.process (lists_of w ++ after) fits range.process (sound.tables ∙ size) inst.1 in
-    let held = c.in_ok-held.ensures.read w.held (of_lists w.size w.me w.kept ++ behind_kept w after) (ranged w.held _ _ _ _ size me range.held)
-    (moved w.held _ _ _ _ _ _ size me (process.1 ∙ at_held w after)) in
-    let kept = c.in_ok-kept.ensures.read w.kept (behind_kept w after) (ranged w.kept _ _ _ _ size me range.kept) (moved w.kept _ _ _ _ _ _ size me held.1) in
-    let asks = c.in_ok-asks.ensures.read w.asks (w.answered ∷ after) range.many range.asks kept.1 in
+    let inbox = c.in_ok-inbox.ensures.read (held_of w.inbox) (kept_of w.inbox) (behind_kept w after) (ranged (held_of w.inbox) _ _ size range.held) (ranged (kept_of w.inbox) _ _ size range.kept) (moved w _ _ after size (process.1 ∙ at_held w after)) in
+    let asks = c.in_ok-asks.ensures.read w.asks (w.answered ∷ after) range.many range.asks inbox.1 in
     let next = c.in_ok-next.ensures.read w.answered after asks.1 in
-    let is : IsReadManager w c.in_ok-size.size c.in_ok-size.me c.in_ok-process.process c.in_ok-inst.inst c.in_ok-begun.begun c.in_ok-held.held c.in_ok-kept.kept c.in_ok-asks.asks c.set_of-answered.result = record {
+    let is : IsReadManager w c.in_ok-size.size c.in_ok-size.me c.in_ok-process.process c.in_ok-inst.inst c.in_ok-begun.begun c.in_ok-inbox.inbox c.in_ok-asks.asks c.set_of-answered.result = record {
       is_size = sym size;
-      is_me = sym me;
+      is_me = ap (λ (x : ℕ × ℕ). x.1) place.0;
       tables = c.in_ok-process.ensures.size;
       form = process.0;
       name = inst.0;
       count = begun.0;
-      held_of = c.in_ok-held.ensures.processes;
-      kept_of = c.in_ok-kept.ensures.processes;
-      held_same = held.0;
-      kept_same = kept.0;
+      senders = c.in_ok-inbox.ensures.processes;
+      lists = λ q b. inbox.0 q b;
       named = asks.0;
       replied = c.set_of-answered.ensures ∙ next.0;
     } in
     is_made (λ (v : ManagerState). of_manager v ≡ of_manager w) _ _ after _ _ _ c.ok_or.ensures.value c.of.ensures.some c.of.ensures.none
-    (sound_again w _ _ _ _ _ _ _ _ _ sound is, own_again w _ _ _ _ _ _ _ _ _ own is) (manager_again w _ _ _ _ _ _ _ _ _ is) next.1
+    (sound_again w _ _ _ _ _ _ _ _ sound is, own_again w _ _ _ _ _ _ _ _ sound own is) (manager_again w _ _ _ _ _ _ _ _ is) next.1

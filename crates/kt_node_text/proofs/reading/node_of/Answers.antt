@@ -1,4 +1,4 @@
-use Rattle.std.proofs.Common.{◌≡◌, ◌∙◌, ◌∷◌, ◌++◌, [], ℕ, List, refl, sym, ap, subst, append_assoc}
+use Rattle.std.proofs.Common.{◌≡◌, ◌∙◌, ◌∷◌, ◌++◌, [], ℕ, List, refl, sym}
 use Rattle.std.specs.Prelude.{Option, Result, Err, IfOk, IfSome, IfNone}
 use Rattle.std.specs.Option.{ok_or}
 use Rattle.kt_node.specs.Links.{NodeLinks, AreCounted}

@@ -1,4 +1,4 @@
-use Rattle.std.proofs.Common.{◌≡◌, ◌∙◌, ◌≢◌, ◌<◌, ℕ, true, false, arith, refl, sym, ap, w64}
+use Rattle.std.proofs.Common.{◌≡◌, ◌∙◌, arith, refl, sym, ap, w64}
 use Rattle.std.proofs.lemmas.Nat.Bits.{bit_at_set_same, bit_at_set_other}
 use Rattle.kt_base.specs.Sets.{has}
 use Rattle.kt_node_text.proofs.Bits.{has_none, below_none, below_more, below_same, below_all}

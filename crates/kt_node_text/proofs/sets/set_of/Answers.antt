@@ -1,6 +1,5 @@
-use Rattle.std.proofs.Common.{◌≡◌, ◌∙◌, ◌≢◌, ◌<◌, ℕ, true, false, arith, refl, sym, ap}
-use Rattle.kt_base.specs.Sets.{has}
-use Rattle.kt_node_text.proofs.Bits.{below_none, below_more, below_same, below_all}
+use Rattle.std.proofs.Common.{arith}
+use Rattle.kt_node_text.proofs.Bits.{below_none, below_all}
 use Rattle.kt_node_text.proofs.sets.set_of.Goals as goal
 
 pub loop-number-init : goal.loop-number-init

@@ -1,5 +1,3 @@
-use Rattle.std.specs.Prelude.{All}
-use Rattle.std.proofs.Common.{rules}
 use Rattle.kt_node_text.specs.Form.{of_name}
 use Rattle.kt_node_text.specs.Ranges.{IsNameIfAny}
 use Rattle.kt_node_text.proofs.Rests.{rest_more, range_more, range_all}

@@ -1,5 +1,4 @@
-use Rattle.std.specs.Prelude.{All}
-use Rattle.std.proofs.Common.{◌≡◌, ◌∙◌, ◌++◌, ◌∷◌, [], ℕ, List, sym, subst, rules}
+use Rattle.std.proofs.Common.{◌≡◌, ◌++◌, subst, rules}
 use Rattle.kt_base.specs.Numbers.{IsProcNo, IsLabel}
 use Rattle.kt_node_text.specs.Form.{of_pair}
 use Rattle.kt_node_text.specs.Ranges.{IsPair}

@@ -23,23 +23,23 @@ returns-in_err-bytes-in-Step-clause-refused c =
     (λ r e. subst (IsNoStep c.args.state.now c.args.numbers.now) (sym e) (bytes_of (numbers_of c.in_ok-node.node), c.in_ok-node.ensures.ok))
     c.from_residual-in_err-bytes-in-Step.ensures.1
 
-pub returns-in_err-output-clause-refused : goal.returns-in_err-output-clause-refused
-returns-in_err-output-clause-refused c =
-    let ok = c.in_err-output.ensures in
-    if_err c.from_residual-in_err-output.result (IsNoStep c.args.state.now c.args.numbers.now) (λ r. r ≡ refusal.Node c.in_err-output.field-0.0)
-    (λ r e. refused_of c.args.state.now c.args.numbers.now c.in_ok-node.node c.in-Some.input c.is_able.result c.in_err-output.field-0.0 r
+pub returns-in_err-take-clause-refused : goal.returns-in_err-take-clause-refused
+returns-in_err-take-clause-refused c =
+    let ok = c.in_err-take.ensures in
+    if_err c.from_residual-in_err-take.result (IsNoStep c.args.state.now c.args.numbers.now) (λ r. r ≡ refusal.Node c.in_err-take.field-0.0)
+    (λ r e. refused_of c.args.state.now c.args.numbers.now c.in_ok-node.node c.in-Some.input c.is_able.result c.in_err-take.field-0.0 r
     (record { same = c.in_ok-node.ensures.own }) (record { own = c.in_ok-node.ensures.sound; said = c.in_ok-node.ensures.ok }) (sym c.meant.ensures ∙ c.in-Some.is) c.is_able.ensures ok.met ok.refused ok.spent ok.memory e)
-    c.from_residual-in_err-output.ensures.1
+    c.from_residual-in_err-take.ensures.1
 
 pub returns-in_ok-bytes-in-Step-clause-step : goal.returns-in_ok-bytes-in-Step-clause-step
 returns-in_ok-bytes-in-Step-clause-step c =
     step_of c.args.state.now c.in_ok-bytes-in-Step.bytes.items c.args.numbers.now c.in_ok-node.node c.take.new.node c.in-Some.input c.is_able.result
-    c.in_ok-output.field-0 c.in-Step.output (record { same = c.in_ok-node.ensures.own }) (record { own = c.in_ok-node.ensures.sound; said = c.in_ok-node.ensures.ok })
+    c.in_ok-take.field-0 c.take.new.out (record { same = c.in_ok-node.ensures.own }) (record { own = c.in_ok-node.ensures.sound; said = c.in_ok-node.ensures.ok })
     (sym c.meant.ensures ∙ c.in-Some.is) c.is_able.ensures c.in-Step.is
-    c.in_ok-bytes-in-Step.ensures c.in_ok-output.ensures.next c.in_ok-output.ensures.met c.in_ok-output.ensures.refused c.in_ok-output.ensures.done
+    c.in_ok-bytes-in-Step.ensures c.in_ok-take.ensures.next c.in_ok-take.ensures.met c.in_ok-take.ensures.refused c.in_ok-take.ensures.done
 
 pub returns-in-Again-clause-step : goal.returns-in-Again-clause-step
 returns-in-Again-clause-step c =
-    again_of c.args.state.now c.args.numbers.now c.in_ok-node.node c.in-Some.input c.in_ok-output.field-0
+    again_of c.args.state.now c.args.numbers.now c.in_ok-node.node c.in-Some.input c.in_ok-take.field-0
     (record { same = c.in_ok-node.ensures.own }) (record { own = c.in_ok-node.ensures.sound; said = c.in_ok-node.ensures.ok })
-    (sym c.meant.ensures ∙ c.in-Some.is) c.in-Again.is c.in_ok-output.ensures.met
+    (sym c.meant.ensures ∙ c.in-Some.is) c.in-Again.is c.in_ok-take.ensures.met

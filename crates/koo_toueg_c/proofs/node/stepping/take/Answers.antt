@@ -6,6 +6,6 @@ use Rattle.koo_toueg_c.proofs.node.stepping.take.Goals as goal
 
 pub returns-in_ok-send-in-Send-clause-done : goal.returns-in_ok-send-in-Send-clause-done
 returns-in_ok-send-in-Send-clause-done c = rw c.in-Send.is (λ y shows.
-    subst (λ (b : ℤ). IsStep c.args.node.now c.send.new.self 0 y (Send c.in-Send.to b) c.in_ok-send-in-Send.field-0)
+    subst (λ (b : ℤ). IsStep c.args.node.now c.send.new.self 0 y (Send c.in-Send.to b) c.send.new.out)
     (to_z-of_z w64 c.in-Send.body (search rules))
     (c.in_ok-send-in-Send.ensures.done y shows.manager))

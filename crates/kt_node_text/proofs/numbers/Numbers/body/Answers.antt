@@ -1,4 +1,4 @@
-use Rattle.std.proofs.Common.{◌≡◌, ◌∙◌, ◌<◌, ◌∷◌, [], true, false, sym, ap, arith}
+use Rattle.std.proofs.Common.{◌∙◌, ◌∷◌, sym, arith}
 use Rattle.std.proofs.lemmas.Bool.{false≢true}
 use Rattle.kt_node_text.proofs.OneAfterAnother.{stops, is_negative, body_size, body_begins, body_fits, from_zero, below_zero, a_body}
 use Rattle.kt_node_text.proofs.numbers.Numbers.body.Goals as goal

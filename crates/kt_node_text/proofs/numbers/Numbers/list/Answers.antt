@@ -1,5 +1,5 @@
-use Rattle.std.specs.Prelude.{All, ⊤}
-use Rattle.std.proofs.Common.{◌≡◌, ◌<◌, ◌≤◌, ◌+◌, ◌++◌, [], ℕ, List, length, drop, refl, arith}
+use Rattle.std.specs.Prelude.{All}
+use Rattle.std.proofs.Common.{◌≡◌, ◌+◌, ◌++◌, [], ℕ, List, length, drop, refl, arith}
 use Rattle.kt_node_text.proofs.Counted.{as_many}
 use Rattle.kt_node_text.proofs.OneAfterAnother.{stops}
 use Rattle.kt_node_text.proofs.ListReads.{none_read, next_read, more_read, all_read}

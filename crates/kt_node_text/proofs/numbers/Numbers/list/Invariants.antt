@@ -1,4 +1,4 @@
-use Rattle.std.proofs.Common.{◌≡◌, ◌++◌, ◌∷◌, [], ℕ, List, length}
+use Rattle.std.proofs.Common.{◌≡◌, ◌++◌, [], ℕ, List}
 use Rattle.kt_node_text.specs.Form.{of_list}
 use Rattle.kt_node_text.proofs.ListReads.{IsReadUpTo}
 use Rattle.kt_node_text.proofs.numbers.Numbers.list.Given as goal

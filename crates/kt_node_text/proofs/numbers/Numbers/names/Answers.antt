@@ -1,6 +1,6 @@
 use Rattle.std.specs.Prelude.{Option}
 use Rattle.std.specs.List.{flat_map}
-use Rattle.std.proofs.Common.{rules, ◌≡◌, ◌∙◌, ◌<◌, ◌≤◌, ◌+◌, ◌++◌, [], ℕ, List, length, drop, refl, sym, arith, append_assoc}
+use Rattle.std.proofs.Common.{rules, ◌∙◌, ◌+◌, ◌++◌, [], ℕ, List, length, drop, refl, sym, arith, append_assoc}
 use Rattle.std.proofs.lemmas.Grind.{take-set_at}
 use Rattle.std.proofs.lemmas.List.{take_all}
 use Rattle.kt_spacetime.specs.declared.names.InstName.{InstName}

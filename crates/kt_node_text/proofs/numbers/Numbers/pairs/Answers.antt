@@ -1,5 +1,5 @@
 use Rattle.std.specs.List.{flat_map}
-use Rattle.std.proofs.Common.{◌≡◌, ◌<◌, ◌≤◌, ◌+◌, ◌++◌, ◌∷◌, [], ℕ, List, length, drop, refl, arith}
+use Rattle.std.proofs.Common.{◌≡◌, ◌+◌, ◌++◌, ◌∷◌, [], ℕ, List, length, drop, refl, arith}
 use Rattle.kt_node_text.specs.Form.{of_pair}
 use Rattle.kt_node_text.specs.Ranges.{IsPair}
 use Rattle.kt_node_text.proofs.Counted.{enough_pairs}

@@ -1,4 +1,4 @@
-use Rattle.std.proofs.Common.{◌≡◌, ◌∙◌, ◌++◌, ℕ, List, take, drop, ap}
+use Rattle.std.proofs.Common.{◌∙◌, ◌++◌, take, drop, ap}
 use Rattle.std.proofs.lemmas.List.{take_at, drop_at}
 use Rattle.kt_node_text.proofs.numbers.Numbers.row.Goals as goal
 

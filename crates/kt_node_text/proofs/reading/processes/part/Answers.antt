@@ -1,8 +1,6 @@
-use Rattle.std.proofs.Common.{◌≤◌, ◌∷◌, ◌∙◌, ℕ, Bool, List, arith}
-use Rattle.std.specs.Prelude.{Option}
+use Rattle.std.proofs.Common.{◌≤◌, ◌∷◌, ◌∙◌, ℕ, List, arith}
 use Rattle.kt_process.specs.Parts.{Part}
 use Rattle.kt_node_text.specs.Form.{of_flag, of_optional}
-use Rattle.kt_node_text.specs.Ranges.{IsPart}
 use Rattle.kt_node_text.proofs.OneAfterAnother.{stops}
 use Rattle.kt_node_text.proofs.reading.processes.part.Goals as goal
 

@@ -1,4 +1,4 @@
-use Rattle.std.proofs.Common.{◌≡◌, ◌∙◌, ◌∷◌, ◌++◌, ℕ, List, sym, subst, append_assoc}
+use Rattle.std.proofs.Common.{◌≡◌, ◌∙◌, ◌∷◌, ◌++◌, ℕ, sym, subst, append_assoc}
 use Rattle.kt_process.specs.ProcessStates.{ProcessState, HasMarks}
 use Rattle.kt_node_text.specs.Form.{of_flag, of_side, of_tables, of_process}
 use Rattle.kt_node_text.proofs.OneAfterAnother.{stops, is_made}
