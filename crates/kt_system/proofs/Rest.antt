@@ -23,3 +23,15 @@ less_past a b p (suc n) l was is h = elim (cases_eq n p) [
 -- a set without one of its members has fewer
 pub fewer : (a b p : ℕ) → p < 64 → has a p ≡ true → has b p ≡ false → ((q : ℕ) → q ≢ p → has b q ≡ has a q) → count_of b < count_of a
 fewer a b p l was is h = less_past a b p 64 l was is h
+
+-- a set that has a member has one at least
+some_below : (a p n : ℕ) → p < n → has a p ≡ true → 0 < count_below a n
+unfolding count_below
+some_below a p zero l h = absurd (omega (arith, l))
+some_below a p (suc n) l h = elim (cases_eq n p) [
+  | inl e ↦ rw (e, h) (omega arith)
+  | inr m ↦ (let i = some_below a p n (omega (arith, l, m)) h in omega (arith, i))
+]
+
+pub has_some_left : (a p : ℕ) → p < 64 → has a p ≡ true → 0 < count_of a
+has_some_left a p l h = some_below a p 64 l h
