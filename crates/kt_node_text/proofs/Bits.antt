@@ -1,19 +1,16 @@
--- A set that is made of the bits of another one, from the lowest on.
-use Rattle.std.proofs.Common.{◌≡◌, ◌≢◌, ◌∙◌, ◌+◌, ◌<◌, ◌≤◌, ◌==◌, ℕ, Bool, true, false, refl, sym, ap, arith, inl, inr}
-use Rattle.std.proofs.lemmas.Bool.{cases_lt, cases_eq}
+-- A set whose members are taken away one by one.
+use Rattle.std.specs.Prelude.{zero, suc}
+use Rattle.std.proofs.Common.{◌≡◌, ◌≢◌, ◌∙◌, ◌<◌, ◌==◌, ◌^◌, ℕ, Bool, true, false, refl, sym, ap, arith, inl, inr, w64}
+use Rattle.std.proofs.lemmas.Bool.{cases_eq, false≢true}
 use Rattle.std.proofs.lemmas.Bool.Decides.{nat_tests}
-use Rattle.std.proofs.lemmas.Nat.Bits.{bit_at-zero}
-use Rattle.std.specs.Int.{bit_at}
-use Rattle.kt_base.specs.Sets.{has}
+use Rattle.std.proofs.lemmas.Nat.Bits.{bit_at-zero, bit_at-trailing_zeros}
+use Rattle.std.specs.Int.{bit_at, trailing_zeros}
+use Rattle.kt_base.specs.Sets.{has, count_below, count_of}
 
--- below n it has what the set has, and from there on nothing
-pub record HasBelow (set bits n : ℕ) : Type 0 where
-  pub below : (q : ℕ) → q < n → has bits q ≡ has set q
-  pub above : (q : ℕ) → n ≤ q → has bits q ≡ false
-
-not_true : (b : Bool) → (b ≡ true → ⊥) → b ≡ false
-not_true true h = absurd (h refl)
-not_true false h = refl
+-- what was taken away of a set stands in another one, and the rest is left
+pub record IsMoved (set made rest : ℕ) : Type 0 where
+  pub part : (q : ℕ) → has rest q ≡ true → has set q ≡ true
+  pub moved : (q : ℕ) → has rest q ≡ false → has made q ≡ has set q
 
 is_clear : (b : ℕ) → b ≡ 0 → (b == 1) ≡ false
 is_clear b e = grind (arith, nat_tests)
@@ -21,30 +18,46 @@ is_clear b e = grind (arith, nat_tests)
 pub has_none : (q : ℕ) → has 0 q ≡ false
 has_none q = is_clear (bit_at 0 q) (bit_at-zero q)
 
-pub below_none : (set bits : ℕ) → ((q : ℕ) → has bits q ≡ false) → HasBelow set bits 0
-below_none set bits h = record { below = λ q b. absurd (omega arith); above = λ q b. h q }
+pub none_moved : (set made : ℕ) → ((q : ℕ) → has made q ≡ false) → IsMoved set made set
+none_moved set made h = record { part = λ q e. e; moved = λ q e. h q ∙ sym e }
 
-pub below_more : (set bits new n : ℕ) → HasBelow set bits n → has set n ≡ true → has new n ≡ true → ((q : ℕ) → q ≢ n → has new q ≡ has bits q) →
-    HasBelow set new (n + 1)
-below_more set bits new n h e f others = record {
-  below = λ q b. elim (cases_eq q n) [
-    | inl same ↦ ap (has new) same ∙ (f ∙ (sym e ∙ ap (has set) (sym same)))
-    | inr other ↦ others q other ∙ h.below q (omega arith)
+pub one_moved : (set made new rest left p : ℕ) → IsMoved set made rest → has rest p ≡ true → has new p ≡ true → ((q : ℕ) → q ≢ p → has new q ≡ has made q) →
+    has left p ≡ false → ((q : ℕ) → q ≢ p → has left q ≡ has rest q) → IsMoved set new left
+one_moved set made new rest left p h member here others gone stay = record {
+  part = λ q e. elim (cases_eq q p) [
+    | inl same ↦ ap (has set) same ∙ h.part p member
+    | inr other ↦ h.part q (sym (stay q other) ∙ e)
   ];
-  above = λ q b. others q (omega arith) ∙ h.above q (omega arith);
+  moved = λ q e. elim (cases_eq q p) [
+    | inl same ↦ ap (has new) same ∙ (here ∙ (sym (h.part p member) ∙ ap (has set) (sym same)))
+    | inr other ↦ others q other ∙ h.moved q (sym (stay q other) ∙ e)
+  ];
 }
 
-pub below_same : (set bits n : ℕ) → HasBelow set bits n → has set n ≡ false → HasBelow set bits (n + 1)
-below_same set bits n h e = record {
-  below = λ q b. elim (cases_eq q n) [
-    | inl same ↦ h.above q (omega arith) ∙ (sym e ∙ ap (has set) (sym same))
-    | inr other ↦ h.below q (omega arith)
-  ];
-  above = λ q b. h.above q (omega arith);
-}
+pub all_moved : (set made rest : ℕ) → IsMoved set made rest → ((q : ℕ) → has rest q ≡ false) → (q : ℕ) → has made q ≡ has set q
+all_moved set made rest h none q = h.moved q (none q)
 
-pub below_all : (set bits n : ℕ) → HasBelow set bits n → 64 ≤ n → ((q : ℕ) → has set q ≡ true → q < 64) → (q : ℕ) → has bits q ≡ has set q
-below_all set bits n h b within q = elim (cases_lt q n) [
-  | inl less ↦ h.below q less
-  | inr more ↦ h.above q more ∙ sym (not_true (has set q) (λ e. omega (arith, within q e)))
+-- the lowest member of a set
+pub lowest : (set : ℕ) → 0 < set → set < 2 ^ 64 → (trailing_zeros w64 set < 64) × (has set (trailing_zeros w64 set) ≡ true)
+lowest set some small = let h = bit_at-trailing_zeros w64 set some small in (h.0, rw (h.1) refl)
+
+same_below : (a b n : ℕ) → ((q : ℕ) → q < n → has b q ≡ has a q) → count_below b n ≡ count_below a n
+unfolding count_below
+same_below a b zero h = refl
+same_below a b (suc n) h = rw (same_below a b n (λ q l. h q (omega arith)), h n (omega arith)) refl
+
+less_past : (a b p n : ℕ) → p < n → has a p ≡ true → has b p ≡ false → ((q : ℕ) → q ≢ p → has b q ≡ has a q) → count_below b n < count_below a n
+unfolding count_below
+less_past a b p zero l was is h = absurd (omega (arith, l))
+less_past a b p (suc n) l was is h = elim (cases_eq n p) [
+  | inl e ↦
+      let same = same_below a b n (λ q k. h q (omega (arith, e))) in
+      rw (e, was, is) (let s : count_below b p ≡ count_below a p = rw e at same in omega (arith, s))
+  | inr m ↦
+      let less = less_past a b p n (omega arith) was is h in
+      rw (h n m) (omega (arith, less))
 ]
+
+-- a set without one of its members has fewer
+pub fewer : (a b p : ℕ) → p < 64 → has a p ≡ true → has b p ≡ false → ((q : ℕ) → q ≢ p → has b q ≡ has a q) → count_of b < count_of a
+fewer a b p l was is h = less_past a b p 64 l was is h

@@ -8,4 +8,7 @@ pub mod OneForm
 pub mod Parts
 pub mod Rests
 pub mod Same
+pub mod Sparse
+pub mod SparseReads
+pub mod Taken
 pub mod Words

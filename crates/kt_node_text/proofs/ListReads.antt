@@ -1,7 +1,8 @@
 -- A list that is read element by element: what was read, and what is left.
 use Rattle.std.specs.Prelude.{All}
-use Rattle.std.proofs.Common.{◌≡◌, ◌∙◌, ◌+◌, ◌<◌, ◌≤◌, ℕ, List, [], ◌∷◌, ◌++◌, length, get_or, take, drop, sym, ap, arith, append_assoc}
-use Rattle.std.proofs.lemmas.List.{drop_more, take_more, drop_all, take_all}
+use Rattle.std.specs.List.{flat_map}
+use Rattle.std.proofs.Common.{◌≡◌, ◌∙◌, ◌+◌, ◌<◌, ◌≤◌, ℕ, List, [], ◌∷◌, ◌++◌, length, get_or, take, drop, sym, ap, arith, append_assoc, length-append}
+use Rattle.std.proofs.lemmas.List.{drop_more, take_more, drop_all, take_all, flat_map_more}
 
 -- the first i of some elements were read, after what was there before
 pub record IsReadUpTo {X : Type 0} (F : List X → List ℕ) (xs before : List X) (after : List ℕ) (i : ℕ) (now : List X) (rest : List ℕ) : Type 0 where
@@ -46,3 +47,28 @@ all_read {X} F xs before after i read left h b e = (
   h.read ∙ ap (λ (l : List X). before ++ l) (take_all i xs b),
   h.left ∙ ((λ k. F (drop_all i xs b k) ++ after) ∙ ap (λ (l : List ℕ). l ++ after) e),
 )
+
+-- of some numbers so many elements were taken, and these are left
+pub record AreTakenOf {X : Type 0} (f : X → List ℕ) (all : List ℕ) (i : ℕ) (xs : List X) (left : List ℕ) : Type 0 where
+  pub many : length xs ≡ i
+  pub whole : all ≡ flat_map f xs ++ left
+
+pub none_of : {X : Type 0} (f : X → List ℕ) (all left : List ℕ) (xs : List X) → xs ≡ [] → all ≡ left → AreTakenOf f all 0 xs left
+none_of {X} f all left xs e h = record {
+  many = ap length e;
+  whole = h ∙ ap (λ (l : List X). flat_map f l ++ left) (sym e);
+}
+
+pub one_more_of : {X : Type 0} (f : X → List ℕ) (all : List ℕ) (i : ℕ) (xs new : List X) (left rest : List ℕ) (x : X) → AreTakenOf f all i xs left → new ≡ xs ++ x ∷ [] →
+    left ≡ f x ++ rest → AreTakenOf f all (i + 1) new rest
+one_more_of {X} f all i xs new left rest x h e tail = record {
+  many = omega (arith, h.many, ap length e, length-append xs (x ∷ []));
+  whole =
+      h.whole
+      ∙ (ap (λ (l : List ℕ). flat_map f xs ++ l) tail
+      ∙ (sym (append_assoc (flat_map f xs) (f x) rest) ∙ ap (λ (l : List ℕ). l ++ rest) (flat_map_more f [] xs x ∙ ap (λ (l : List X). flat_map f l) (sym e))));
+}
+
+pub all_of : {X : Type 0} (f : X → List ℕ) (whole all : List ℕ) (n i : ℕ) (xs : List X) (left : List ℕ) → whole ≡ n ∷ all → AreTakenOf f all i xs left → i ≡ n →
+    whole ≡ length xs ∷ (flat_map f xs ++ left)
+all_of f whole all n i xs left e h same = e ∙ (λ k. (sym same ∙ sym h.many) k ∷ h.whole k)

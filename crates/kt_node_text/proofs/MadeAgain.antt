@@ -14,8 +14,8 @@ use Rattle.kt_manager.specs.Inboxes.{InboxLists, processes_of, kept_of, held_of}
 use Rattle.kt_manager.specs.Managers.{number_in}
 use Rattle.kt_node.specs.Links.{NodeLinks, AreCounted}
 use Rattle.kt_node.specs.declared.reach.Reaches.{Reaches}
-use Rattle.kt_node_text.specs.Form.{gather, counted, of_item, of_lists, of_flag, of_name, of_side, of_tables, of_process, of_manager, of_list, of_reaches, numbers_of, version}
-use Rattle.kt_node_text.proofs.GatheredReads.{Lists, list_form}
+use Rattle.kt_node_text.specs.Form.{gather, part, of_messages, of_inbox, of_asks, of_flag, of_name, of_side, of_tables, of_process, of_manager, of_row, of_reaches, numbers_of, version}
+use Rattle.kt_node_text.proofs.Sparse.{same_gather}
 use Rattle.kt_node_text.proofs.Parts.{one_tables, one_process}
 
 same_labels : (t u : State) (q n : ℕ) → of_tables t ≡ of_tables u → label_of u.last_out q ≤ n → label_of t.last_out q ≤ n
@@ -62,13 +62,9 @@ form_again x t side up used h =
     sym (ap of_process (parts_are x t side up used h)) ∙ ap (λ (l : List ℕ). x.used ∷ of_flag x.up ∷ of_side x.side ++ l) h.tables
 
 -- messages are of one form where they are the same
-same_gather : (n : ℕ) (f g : ℕ → List ℕ) → ((q : ℕ) → q < n → f q ≡ g q) → gather n f ≡ gather n g
-unfolding gather
-same_gather zero f g h = refl
-same_gather (suc n) f g h = λ i. same_gather n f g (λ q b. h q (omega arith)) i ++ h n (omega arith) i
-
-same_lists : (u v : Lists) (m n : ℕ) → m ≡ n → ((k : ℕ) → k < m → u k ≡ v k) → of_lists m u ≡ of_lists n v
-same_lists u v m n e h = same_gather m (list_form u) (list_form v) (λ k b. ap (counted of_item) (h k b)) ∙ (λ i. of_lists (e i) v)
+same_inbox : (u v : InboxLists) (m n : ℕ) → m ≡ n → ((q : ℕ) → q < m → (held_of u q ≡ held_of v q) × (kept_of u q ≡ kept_of v q)) → of_inbox m u ≡ of_inbox n v
+same_inbox u v m n e h =
+    ap (λ (l : List ℕ). l ++ 0 ∷ []) (same_gather m _ _ (λ q b. λ i. part q (of_messages ((h q b).1 i) ((h q b).0 i)))) ∙ (λ i. of_inbox (e i) v)
 
 -- what was read of a manager
 pub record IsReadManager (w : ManagerState) (size me : ℕ) (process : ProcessState) (inst : Option InstName) (begun : ℕ) (inbox : InboxLists) (asks : List (Option InstName)) (answered : ℕ) : Type 0 where
@@ -100,9 +96,8 @@ pub manager_again : (w : ManagerState) (size me : ℕ) (process : ProcessState) 
     IsReadManager w size me process inst begun inbox asks answered → of_manager (manager_of me process inst begun inbox asks answered) ≡ of_manager w
 manager_again w size me process inst begun inbox asks answered h =
     let n : process.tables.processes ≡ w.size = h.tables ∙ h.is_size in
-    let held_form = same_lists (held_of inbox) (held_of w.inbox) process.tables.processes w.size n (λ k b. (h.lists k (omega (arith, h.tables))).0) in
-    let kept_form = same_lists (kept_of inbox) (kept_of w.inbox) process.tables.processes w.size n (λ k b. (h.lists k (omega (arith, h.tables))).1) in
-    λ i. n i ∷ h.is_me i ∷ h.count i ∷ of_name (h.name i) ++ (h.form i ++ (held_form i ++ (kept_form i ++ (counted of_name (h.named i) ++ h.replied i ∷ []))))
+    let inbox_form = same_inbox inbox w.inbox process.tables.processes w.size n (λ q b. h.lists q (omega (arith, h.tables))) in
+    λ i. n i ∷ h.is_me i ∷ h.count i ∷ of_name (h.name i) ++ (h.form i ++ (inbox_form i ++ (of_asks (h.named i) ++ h.replied i ∷ [])))
 
 -- and its part is its own
 pub own_again : (w : ManagerState) (size me : ℕ) (process : ProcessState) (inst : Option InstName) (begun : ℕ) (inbox : InboxLists) (asks : List (Option InstName)) (answered : ℕ) → IsSoundManager w → HasOwnPart w →
@@ -139,4 +134,4 @@ counted_again w manager clock sent taken reaches f h = record {
 pub node_again : (w : NodeLinks) (manager : ManagerState) (clock : ℕ) (sent taken : List ℕ) (reaches : Reaches) →
     IsReadNode w manager clock sent taken reaches → numbers_of (node_of manager clock sent taken reaches) ≡ numbers_of w
 node_again w manager clock sent taken reaches h =
-    λ i. version ∷ h.is_clock i ∷ h.form i ++ (of_list (h.is_sent i) ++ (of_list (h.is_taken i) ++ of_reaches (h.goes i)))
+    λ i. version ∷ h.is_clock i ∷ h.form i ++ (of_row (h.is_sent i) ++ (of_row (h.is_taken i) ++ of_reaches (h.goes i)))

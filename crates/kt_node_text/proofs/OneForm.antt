@@ -2,7 +2,8 @@
 use Rattle.std.specs.Prelude.{pos, negsuc, Option, Some, None, zero, suc}
 use Rattle.std.specs.List.{flat_map}
 use Rattle.std.proofs.Common.{◌≡◌, ◌∙◌, ◌+◌, ◌<◌, ℕ, Bool, true, false, List, [], ◌∷◌, ◌++◌, length, refl, sym, ap, arith, append_assoc, below_more}
-use Rattle.kt_node_text.specs.Form.{of_flag, of_optional, of_list, counted, of_pair, gather, of_body, of_item}
+use Rattle.kt_manager.specs.declared.received.Item.{Item}
+use Rattle.kt_node_text.specs.Form.{of_flag, of_optional, counted, of_pair, of_body, of_item}
 
 abbrev pub Numbers : Type 0
 Numbers = List ℕ
@@ -45,21 +46,9 @@ one_body (negsuc m) (negsuc n) r s e =
 
 pub one_item : IsOneForm of_item
 one_item x y r s e =
-    let e1 = same_tail _ _ _ _ e in
-    let label : x.label ≡ y.label = same_head _ _ _ _ e1 in
-    let body = one_body x.body y.body r s (same_tail _ _ _ _ (same_tail _ _ _ _ e1)) in
+    let label : x.label ≡ y.label = same_head _ _ _ _ e in
+    let body = one_body x.body y.body r s (same_tail _ _ _ _ e) in
     (λ i. record { label = label i; body = body.0 i }, body.1)
-
-long_list : (xs ys r s : Numbers) → length xs ≡ length ys → xs ++ r ≡ ys ++ s → (xs ≡ ys) × (r ≡ s)
-long_list [] [] r s n e = (refl, e)
-long_list [] (y ∷ ys) r s n e = absurd (omega arith)
-long_list (x ∷ xs) [] r s n e = absurd (omega arith)
-long_list (x ∷ xs) (y ∷ ys) r s n e =
-    let h = same_head _ _ _ _ e in
-    let t = long_list xs ys r s (omega arith) (same_tail _ _ _ _ e) in (λ i. h i ∷ t.0 i, t.1)
-
-pub one_list : IsOneForm of_list
-one_list xs ys r s e = long_list xs ys r s (same_head _ _ _ _ e) (same_tail _ _ _ _ e)
 
 long_flat : {X : Type 0} (f : X → Numbers) → IsOneForm f → (xs ys : List X) (r s : Numbers) → length xs ≡ length ys →
     flat_map f xs ++ r ≡ flat_map f ys ++ s → (xs ≡ ys) × (r ≡ s)
@@ -72,15 +61,3 @@ long_flat f h (x ∷ xs) (y ∷ ys) r s n e =
 
 pub one_counted : {X : Type 0} (f : X → Numbers) → IsOneForm f → IsOneForm (counted f)
 one_counted f h xs ys r s e = long_flat f h xs ys r s (same_head _ _ _ _ e) (same_tail _ _ _ _ e)
-
--- forms of the numbers below one
-pub one_gather : {X : Type 0} (f : X → Numbers) → IsOneForm f → (n : ℕ) (u v : ℕ → X) (r s : Numbers) →
-    gather n (λ q. f (u q)) ++ r ≡ gather n (λ q. f (v q)) ++ s → ((q : ℕ) → q < n → u q ≡ v q) × (r ≡ s)
-unfolding gather
-one_gather f h zero u v r s e = (λ q b. absurd (omega arith), e)
-one_gather {X} f h (suc n) u v r s e =
-    let front = gather n (λ q. f (u q)) in
-    let other = gather n (λ q. f (v q)) in
-    let t = one_gather f h n u v (f (u n) ++ r) (f (v n) ++ s) (sym (append_assoc front (f (u n)) r) ∙ (e ∙ append_assoc other (f (v n)) s)) in
-    let k = h (u n) (v n) r s t.1 in
-    (λ q b. below_more (λ (p : ℕ). u p ≡ v p) n t.0 k.0 q (omega arith), k.1)

@@ -9,8 +9,11 @@ use Rattle.kt_process.specs.declared.side.Side.{Side}
 use Rattle.kt_process.specs.declared.side.Side.TheVariants as side
 use Rattle.kt_machine.specs.SeenJoining.{no_note}
 use Rattle.kt_tables.specs.States.{State}
-use Rattle.kt_node_text.specs.Form.{of_list, counted, of_pair, of_tables, of_part, of_side, of_name, of_process, of_reach, of_reaches}
-use Rattle.kt_node_text.proofs.OneForm.{Numbers, IsOneForm, same_head, same_tail, one_flag, one_optional, one_pair, one_list, one_counted}
+use Rattle.kt_node.specs.declared.reach.Reach.{Reach}
+use Rattle.kt_node.specs.declared.reach.Reaches.{Reaches}
+use Rattle.kt_node_text.specs.Form.{of_flag, of_optional, of_row, counted, of_pair, of_tables, of_part, of_side, of_name, of_process, of_reach, of_reaches}
+use Rattle.kt_node_text.proofs.OneForm.{Numbers, IsOneForm, same_head, same_tail, one_flag, one_optional, one_pair, one_counted}
+use Rattle.kt_node_text.proofs.Sparse.{one_row}
 
 pub one_part : IsOneForm of_part
 one_part p q r s e =
@@ -44,8 +47,8 @@ one_side None (Some (side.Checkpoint b)) r s e = absurd (omega (arith, same_head
 one_side None (Some (side.Rollback b)) r s e = absurd (omega (arith, same_head _ _ _ _ e))
 one_side (Some (side.Checkpoint a)) None r s e = absurd (omega (arith, same_head _ _ _ _ e))
 one_side (Some (side.Checkpoint a)) (Some (side.Checkpoint b)) r s e =
-    let p = one_part a.part b.part (of_list a.marks ++ r) (of_list b.marks ++ s) (same_tail _ _ _ _ e) in
-    let m = one_list a.marks b.marks r s p.1 in
+    let p = one_part a.part b.part (of_row a.marks ++ r) (of_row b.marks ++ s) (same_tail _ _ _ _ e) in
+    let m = one_row a.marks b.marks r s p.1 in
     (record { shown = saving_same _ _ _ _ p.0 m.0; inst = ap (λ (x : Part). x.inst) p.0; saving = refl }, m.1)
 one_side (Some (side.Checkpoint a)) (Some (side.Rollback b)) r s e = absurd (omega (arith, same_head _ _ _ _ e))
 one_side (Some (side.Rollback a)) None r s e = absurd (omega (arith, same_head _ _ _ _ e))
@@ -110,7 +113,7 @@ one_process x y r s e =
 pub one_reach : IsOneForm of_reach
 one_reach x y r s e =
     let sent : x.sent ≡ y.sent = same_head _ _ _ _ e in
-    let a = one_list x.received y.received r s (same_tail _ _ _ _ e) in
+    let a = one_row x.received y.received r s (same_tail _ _ _ _ e) in
     (λ i. record { sent = sent i; received = a.0 i }, a.1)
 
 pub one_reaches : IsOneForm of_reaches

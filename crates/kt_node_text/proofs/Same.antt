@@ -22,9 +22,10 @@ use Rattle.kt_node.specs.Managers.{ManagerState, IsSoundManager, ShowsNode}
 use Rattle.kt_node.specs.Links.{NodeLinks}
 use Rattle.kt_node.specs.Reaches.{HasReaches}
 use Rattle.kt_node.specs.declared.reach.Reaches.{Reaches}
-use Rattle.kt_node_text.specs.Form.{of_list, counted, of_item, of_lists, of_process, of_name, of_manager, numbers_of}
+use Rattle.kt_node_text.specs.Form.{of_row, of_inbox, of_asks, of_process, of_name, of_manager, of_reaches, numbers_of}
 use Rattle.kt_node_text.specs.Sameness.{IsSound, IsSameState}
-use Rattle.kt_node_text.proofs.OneForm.{Numbers, same_head, same_tail, one_list, one_counted, one_item, one_gather}
+use Rattle.kt_node_text.proofs.OneForm.{Numbers, same_head, same_tail}
+use Rattle.kt_node_text.proofs.Sparse.{one_row, one_asks, one_inbox}
 use Rattle.kt_node_text.proofs.Parts.{AreSameTables, IsSameProcess, behind, one_name, one_process, one_reaches}
 
 labels_same : (t u : LabelTable) (q x : ℕ) → t.pairs ≡ u.pairs → label_of t q ≡ x → label_of u q ≡ x
@@ -82,11 +83,6 @@ record IsSameBut (a b : ManagerState) : Type 0 where
   asks : a.asks ≡ b.asks
   answered : a.answered ≡ b.answered
 
--- messages of n processes, where their numbers are the same
-one_lists : (u v : Lists) (m n : ℕ) (r s : Numbers) → m ≡ n → of_lists m u ++ r ≡ of_lists n v ++ s → ((q : ℕ) → q < n → u q ≡ v q) × (r ≡ s)
-one_lists u v m n r s sizes e =
-    one_gather (counted of_item) (one_counted of_item one_item) n u v r s ((λ i. of_lists (sym sizes i) u ++ r) ∙ e)
-
 one_manager : (a b : ManagerState) (r s : Numbers) → IsSoundManager a → IsSoundManager b → of_manager a ++ r ≡ of_manager b ++ s → IsSameBut a b × (r ≡ s)
 one_manager a b r s f g e =
     let size : a.size ≡ b.size = same_head _ _ _ _ e in
@@ -97,11 +93,10 @@ one_manager a b r s f g e =
     let e3 = same_tail _ _ _ _ e2 in
     let inst = one_name a.inst b.inst _ _ (behind (of_name a.inst) _ r (of_name b.inst) _ s e3) in
     let process = one_process a.process b.process _ _ (behind (of_process a.process) _ r (of_process b.process) _ s inst.1) in
-    let held = one_lists (held_of a.inbox) (held_of b.inbox) a.size b.size _ _ size (behind (of_lists a.size (held_of a.inbox)) _ r (of_lists b.size (held_of b.inbox)) _ s process.1) in
-    let kept = one_lists (kept_of a.inbox) (kept_of b.inbox) a.size b.size _ _ size (behind (of_lists a.size (kept_of a.inbox)) _ r (of_lists b.size (kept_of b.inbox)) _ s held.1) in
-    let same_held = lists_same (held_of a.inbox) (held_of b.inbox) b.size (λ q more. held_past a.inbox b.size q (f.inbox ∙ size) more) (λ q more. held_past b.inbox b.size q g.inbox more) held.0 in
-    let same_kept = lists_same (kept_of a.inbox) (kept_of b.inbox) b.size (λ q more. kept_past a.inbox b.size q (f.inbox ∙ size) more) (λ q more. kept_past b.inbox b.size q g.inbox more) kept.0 in
-    let asks = one_counted of_name one_name a.asks b.asks _ _ (behind (counted of_name a.asks) _ r (counted of_name b.asks) _ s kept.1) in
+    let inbox = one_inbox a.inbox b.inbox a.size b.size _ _ size (behind (of_inbox a.size a.inbox) _ r (of_inbox b.size b.inbox) _ s process.1) in
+    let same_held = lists_same (held_of a.inbox) (held_of b.inbox) b.size (λ q more. held_past a.inbox b.size q (f.inbox ∙ size) more) (λ q more. held_past b.inbox b.size q g.inbox more) (λ q c. (inbox.0 q c).1) in
+    let same_kept = lists_same (kept_of a.inbox) (kept_of b.inbox) b.size (λ q more. kept_past a.inbox b.size q (f.inbox ∙ size) more) (λ q more. kept_past b.inbox b.size q g.inbox more) (λ q c. (inbox.0 q c).0) in
+    let asks = one_asks a.asks b.asks _ _ (behind (of_asks a.asks) _ r (of_asks b.asks) _ s inbox.1) in
     let answered : a.answered ≡ b.answered = same_head _ _ _ _ asks.1 in
     (record { size = size; me = me; begun = begun; inst = inst.0; process = process.0; held = same_held; kept = same_kept; asks = asks.0; answered = answered }, same_tail _ _ _ _ asks.1)
 
@@ -132,8 +127,8 @@ same_numbers w v f g e0 =
     let clock : w.clock ≡ v.clock = same_head _ _ _ _ e1 in
     let e2 = same_tail _ _ _ _ e1 in
     let manager = one_manager w.manager v.manager _ _ f.manager g.manager (behind (of_manager w.manager) _ [] (of_manager v.manager) _ [] e2) in
-    let sent = one_list w.sent v.sent _ _ (behind (of_list w.sent) _ [] (of_list v.sent) _ [] manager.1) in
-    let taken = one_list w.taken v.taken _ _ (behind (of_list w.taken) _ [] (of_list v.taken) _ [] sent.1) in
+    let sent = one_row w.sent v.sent _ _ (behind (of_row w.sent) _ [] (of_row v.sent) _ [] manager.1) in
+    let taken = one_row w.taken v.taken _ _ (behind (of_row w.taken) _ [] (of_row v.taken) _ [] sent.1) in
     let reach = one_reaches w.reaches v.reaches [] [] taken.1 in record {
       shows = λ y s. record {
         manager = shows_same w.manager v.manager y manager.0 f.process g.process s.manager;

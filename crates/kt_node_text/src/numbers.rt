@@ -1,11 +1,11 @@
 //! Numbers that are read one after another.
 
-ghost use Rattle.std.specs.Prelude.{◌≡◌, ◌<◌, ◌≤◌, ◌∷◌, ◌++◌, ℕ, ℤ, Bool, Option, List, length, All, FitsSigned, IfOk, IfErr, IfSome, IsErrOf};
+ghost use Rattle.std.specs.Prelude.{◌≡◌, ◌↔◌, ◌<◌, ◌≤◌, ◌+◌, ◌∷◌, ◌++◌, [], ℕ, ℤ, Bool, Option, Some, None, List, length, All, FitsSigned, IsTrue, IfOk, IfErr, IfSome, IfNone, IsErrOf};
 ghost use Rattle.std.specs.Int.{w64};
 ghost use Rattle.kt_base.specs.Numbers.{IsProcNo, IsLabel, IsInstNo};
 ghost use Rattle.kt_spacetime.specs.Counts.{IsCount};
 ghost use Rattle.kt_spacetime.specs.declared.names.InstName.{InstName};
-ghost use Rattle.kt_node_text.specs.Form.{of_flag, of_optional, of_body, of_name, of_list, of_pair, counted};
+ghost use Rattle.kt_node_text.specs.Form.{of_flag, of_optional, of_body, of_name, of_row, of_asks, of_pair, counted};
 ghost use Rattle.kt_node_text.specs.Ranges.{IsPair, IsName, IsNameIfAny, IsRow};
 ghost use Rattle.kt_node_text.specs.Reading.{IsRead, IsReadAs};
 ghost use Rattle.kt_node_text.specs.declared.fault.LoadFault.TheVariants as fault;
@@ -29,15 +29,16 @@ impl<'a> Numbers<'a> {
         Numbers { rest }
     }
 
-    /// The same numbers, to be read once more.
-    pub(crate) fn again(&self) -> Numbers<'a>
-        ensures { result.rest.now ≡ self.now.rest.now }
+    /// Whether none is left.
+    pub(crate) fn is_done(&self) -> bool
+        ensures { IsTrue result ↔ (self.now.rest.now ≡ []) }
     {
-        Numbers { rest: self.rest }
+        self.rest.is_empty()
     }
 
     /// The next number.
     pub(crate) fn next(&mut self) -> Result<u64, LoadFault>
+        ensures taken { IfOk result (λ n. self.old.rest.now ≡ n ∷ self.new.rest.now) }
         ensures read { (n : ℕ) (after : List ℕ) → self.old.rest.now ≡ n ∷ after →
             IsRead n after result self.new.rest.now }
         ensures form { IfErr result (λ f. f ≡ fault.Form) }
@@ -53,6 +54,7 @@ impl<'a> Numbers<'a> {
 
     /// How many things follow, each of at least a number: more than there are numbers left is no form.
     pub(crate) fn count(&mut self) -> Result<u64, LoadFault>
+        ensures taken { IfOk result (λ n. self.old.rest.now ≡ n ∷ self.new.rest.now) }
         ensures read { (n : ℕ) (after : List ℕ) → n ≤ length after →
             self.old.rest.now ≡ n ∷ after → IsRead n after result self.new.rest.now }
         ensures few { (n : ℕ) (after : List ℕ) → length after < n →
@@ -69,6 +71,7 @@ impl<'a> Numbers<'a> {
 
     /// The next number, which is at most this one.
     pub(crate) fn up_to(&mut self, most: u64) -> Result<u64, LoadFault>
+        ensures taken { IfOk result (λ n. self.old.rest.now ≡ n ∷ self.new.rest.now) }
         ensures most { IfOk result (λ number. number ≤ most) }
         ensures read { (n : ℕ) (after : List ℕ) → n ≤ most → self.old.rest.now ≡ n ∷ after →
             IsRead n after result self.new.rest.now }
@@ -84,6 +87,7 @@ impl<'a> Numbers<'a> {
 
     /// One of two cases.
     pub(crate) fn flag(&mut self) -> Result<bool, LoadFault>
+        ensures taken { IfOk result (λ n. self.old.rest.now ≡ of_flag n ∷ self.new.rest.now) }
         ensures read { (b : Bool) (after : List ℕ) → self.old.rest.now ≡ of_flag b ∷ after →
             IsRead b after result self.new.rest.now }
         ensures form { IfErr result (λ f. f ≡ fault.Form) }
@@ -93,6 +97,8 @@ impl<'a> Numbers<'a> {
 
     /// A process.
     pub(crate) fn process(&mut self) -> Result<ProcNo, LoadFault>
+        ensures taken { IfOk result (λ n. self.old.rest.now ≡ n ∷ self.new.rest.now) }
+        ensures range { IfOk result IsProcNo }
         ensures read { (p : ℕ) (after : List ℕ) → IsProcNo p → self.old.rest.now ≡ p ∷ after →
             IsRead p after result self.new.rest.now }
         ensures form { IfErr result (λ f. f ≡ fault.Form) }
@@ -103,6 +109,8 @@ impl<'a> Numbers<'a> {
 
     /// A process by one more than its number, or none by 0.
     pub(crate) fn optional(&mut self) -> Result<Option<ProcNo>, LoadFault>
+        ensures taken { IfOk result (λ n. self.old.rest.now ≡ of_optional n ∷ self.new.rest.now) }
+        ensures range { IfOk result (λ o. IfSome o IsProcNo) }
         ensures read { (o : Option ℕ) (after : List ℕ) → IfSome o IsProcNo →
             self.old.rest.now ≡ of_optional o ∷ after →
             IsRead o after result self.new.rest.now }
@@ -118,6 +126,8 @@ impl<'a> Numbers<'a> {
 
     /// A label, 0 for none.
     pub(crate) fn label(&mut self) -> Result<Label, LoadFault>
+        ensures taken { IfOk result (λ n. self.old.rest.now ≡ n ∷ self.new.rest.now) }
+        ensures range { IfOk result IsLabel }
         ensures read { (l : ℕ) (after : List ℕ) → IsLabel l → self.old.rest.now ≡ l ∷ after →
             IsRead l after result self.new.rest.now }
         ensures form { IfErr result (λ f. f ≡ fault.Form) }
@@ -128,6 +138,8 @@ impl<'a> Numbers<'a> {
 
     /// An instance, by the number by which a process knows it.
     pub(crate) fn inst(&mut self) -> Result<InstNo, LoadFault>
+        ensures taken { IfOk result (λ n. self.old.rest.now ≡ n ∷ self.new.rest.now) }
+        ensures range { IfOk result IsInstNo }
         ensures read { (k : ℕ) (after : List ℕ) → IsInstNo k → self.old.rest.now ≡ k ∷ after →
             IsRead k after result self.new.rest.now }
         ensures form { IfErr result (λ f. f ≡ fault.Form) }
@@ -138,6 +150,8 @@ impl<'a> Numbers<'a> {
 
     /// Which one it is of those that a process sent or began.
     pub(crate) fn count_of_one(&mut self) -> Result<Count, LoadFault>
+        ensures taken { IfOk result (λ n. self.old.rest.now ≡ n ∷ self.new.rest.now) }
+        ensures range { IfOk result IsCount }
         ensures read { (n : ℕ) (after : List ℕ) → IsCount n → self.old.rest.now ≡ n ∷ after →
             IsRead n after result self.new.rest.now }
         ensures form { IfErr result (λ f. f ≡ fault.Form) }
@@ -148,6 +162,7 @@ impl<'a> Numbers<'a> {
 
     /// A body, after whether it is negative.
     pub(crate) fn body(&mut self) -> Result<i64, LoadFault>
+        ensures taken { IfOk result (λ n. self.old.rest.now ≡ of_body n ++ self.new.rest.now) }
         ensures read { (b : ℤ) (after : List ℕ) → FitsSigned w64 b →
             self.old.rest.now ≡ of_body b ++ after → IsRead b after result self.new.rest.now }
         ensures form { IfErr result (λ f. f ≡ fault.Form) }
@@ -165,6 +180,8 @@ impl<'a> Numbers<'a> {
 
     /// The name of an instance, if there is one.
     pub(crate) fn name(&mut self) -> Result<Option<InstName>, LoadFault>
+        ensures taken { IfOk result (λ n. self.old.rest.now ≡ of_name n ++ self.new.rest.now) }
+        ensures range { IfOk result IsNameIfAny }
         ensures read { (o : Option InstName) (after : List ℕ) → IfSome o IsName →
             self.old.rest.now ≡ of_name o ++ after → IsRead o after result self.new.rest.now }
         ensures form { IfErr result (λ f. f ≡ fault.Form) }
@@ -180,24 +197,75 @@ impl<'a> Numbers<'a> {
         }
     }
 
-    /// Sixty-four names of instances, where there are some, after how many there are.
-    pub fn names(&mut self) -> Result<[Option<InstName>; 64], LoadFault>
+    /// The next process of which something follows, past so many and below that many; None where a 0 ends them.
+    pub(crate) fn peer(
+        &mut self,
+        passed: usize,
+        processes: usize,
+    ) -> Result<Option<ProcNo>, LoadFault>
+        requires { processes ≤ 64 }
+        ensures some { IfOk result (λ o. IfSome o (λ p. (passed ≤ p) × (p < processes)
+            × (self.old.rest.now ≡ (p + 1) ∷ self.new.rest.now))) }
+        ensures none { IfOk result (λ o. IfNone o (self.old.rest.now ≡ 0 ∷ self.new.rest.now)) }
+        ensures read { (p : ℕ) (after : List ℕ) → passed ≤ p → p < processes →
+            self.old.rest.now ≡ (p + 1) ∷ after → IsRead (Some p) after result self.new.rest.now }
+        ensures last { (after : List ℕ) → self.old.rest.now ≡ 0 ∷ after →
+            IsRead None after result self.new.rest.now }
+        ensures form { IfErr result (λ f. f ≡ fault.Form) }
+    {
+        let number = self.up_to(processes as u64)? as usize;
+        if number == 0 {
+            return Ok(None);
+        }
+        if number <= passed {
+            return Err(LoadFault::Form);
+        }
+        Ok(Some(ProcNo::nth((number - 1) as u8)))
+    }
+
+    /// A number that is not 0.
+    fn some(&mut self) -> Result<u64, LoadFault>
+        ensures some { IfOk result (λ n. (1 ≤ n) × (self.old.rest.now ≡ n ∷ self.new.rest.now)) }
+        ensures read { (n : ℕ) (after : List ℕ) → 1 ≤ n → self.old.rest.now ≡ n ∷ after →
+            IsRead n after result self.new.rest.now }
+        ensures form { IfErr result (λ f. f ≡ fault.Form) }
+    {
+        let number = self.next()?;
+        if number < 1 {
+            return Err(LoadFault::Form);
+        }
+        Ok(number)
+    }
+
+    /// Names of instances by process.
+    pub(crate) fn asks(&mut self) -> Result<[Option<InstName>; 64], LoadFault>
+        ensures taken { IfOk result (λ xs. self.old.rest.now ≡ of_asks xs ++ self.new.rest.now) }
+        ensures many { IfOk result (λ xs. length xs ≡ 64) }
+        ensures range { IfOk result (λ xs. All IsNameIfAny xs) }
         ensures read { (xs : List (Option InstName)) (after : List ℕ) → length xs ≡ 64 → All IsNameIfAny xs →
-            self.old.rest.now ≡ counted of_name xs ++ after → IsRead xs after result self.new.rest.now }
+            self.old.rest.now ≡ of_asks xs ++ after → IsRead xs after result self.new.rest.now }
         ensures form { IfErr result (λ f. f ≡ fault.Form) }
     {
         if self.next()? != 64 {
             return Err(LoadFault::Form);
         }
-        let mut names = [None; 64];
-        for place in 0..64 {
-            names[place] = self.name()?;
+        let mut asks = [None; 64];
+        let mut passed = 0;
+        while let Some(peer) = self.peer(passed, 64)? {
+            asks[peer.index()] = Some(InstName {
+                initiator: self.process()?,
+                count: self.count_of_one()?,
+            });
+            passed = peer.index() + 1;
         }
-        Ok(names)
+        Ok(asks)
     }
 
     /// Pairs of a process and a label, after how many there are.
     pub(crate) fn pairs(&mut self, alloc: Global) -> Result<Vec<(ProcNo, Label)>, LoadFault>
+        ensures taken { IfOk result (λ pairs. self.old.rest.now
+            ≡ counted of_pair pairs.items ++ self.new.rest.now) }
+        ensures range { IfOk result (λ pairs. All IsPair pairs.items) }
         ensures read { (xs : List (ℕ × ℕ)) (after : List ℕ) → All IsPair xs →
             self.old.rest.now ≡ counted of_pair xs ++ after →
             IsReadAs (λ pairs. pairs.items ≡ xs) after result self.new.rest.now }
@@ -214,36 +282,44 @@ impl<'a> Numbers<'a> {
         Ok(pairs)
     }
 
-    /// A list of numbers, after how many there are.
-    pub(crate) fn list(&mut self, alloc: Global) -> Result<Vec<usize>, LoadFault>
-        ensures read { (xs after : List ℕ) → self.old.rest.now ≡ of_list xs ++ after →
-            IsReadAs (λ list. list.items ≡ xs) after result self.new.rest.now }
-        ensures few { (n : ℕ) (after : List ℕ) → length after < n →
-            self.old.rest.now ≡ n ∷ after → IsErrOf result fault.Form }
+    /// Numbers by process, of so many processes.
+    pub(crate) fn marks(&mut self, alloc: Global, processes: usize) -> Result<Vec<usize>, LoadFault>
+        requires { processes ≤ 64 }
+        ensures taken { IfOk result (λ xs. self.old.rest.now ≡ of_row xs.items ++ self.new.rest.now) }
+        ensures length { IfOk result (λ xs. length xs.items ≡ processes) }
+        ensures read { (xs after : List ℕ) → length xs ≡ processes →
+            self.old.rest.now ≡ of_row xs ++ after →
+            IsReadAs (λ marks. marks.items ≡ xs) after result self.new.rest.now }
     {
-        let count = self.count()?;
-        let mut list = Vec::new(alloc);
-        for _ in 0..count {
-            let number = self.next()?;
-            list.push(number as usize)?;
+        if self.next()? != processes as u64 {
+            return Err(LoadFault::Form);
         }
-        Ok(list)
+        let mut marks = vec![in alloc; 0; processes]?;
+        let mut passed = 0;
+        while let Some(peer) = self.peer(passed, processes)? {
+            marks[peer.index()] = self.some()? as usize;
+            passed = peer.index() + 1;
+        }
+        Ok(marks)
     }
 
-    /// Sixty-four numbers, after how many there are.
+    /// Numbers by process, of all that there may be.
     pub(crate) fn row(&mut self) -> Result<[u64; 64], LoadFault>
-        ensures read { (xs after : List ℕ) → IsRow xs → self.old.rest.now ≡ of_list xs ++ after →
+        ensures taken { IfOk result (λ xs. self.old.rest.now ≡ of_row xs ++ self.new.rest.now) }
+        ensures many { IfOk result (λ xs. IsRow xs) }
+        ensures read { (xs after : List ℕ) → IsRow xs → self.old.rest.now ≡ of_row xs ++ after →
             IsRead xs after result self.new.rest.now }
         ensures form { IfErr result (λ f. f ≡ fault.Form) }
     {
-        let count = self.next()?;
-        if count != 64 || self.rest.len() < 64 {
+        if self.next()? != 64 {
             return Err(LoadFault::Form);
         }
-        let (front, rest) = self.rest.split_at(64);
         let mut row = [0; 64];
-        row.copy_from_slice(front);
-        self.rest = rest;
+        let mut passed = 0;
+        while let Some(peer) = self.peer(passed, 64)? {
+            row[peer.index()] = self.some()?;
+            passed = peer.index() + 1;
+        }
         Ok(row)
     }
 }

@@ -1,4 +1,4 @@
-//! A node of numbers. What is read may still be written otherwise: the caller compares.
+//! A node of numbers. What is read has these numbers, and no others.
 
 ghost use Rattle.std.specs.Prelude.{◌≡◌, ◌<◌, ◌≤◌, ◌∷◌, ◌++◌, ℕ, List, IfOk, IsErrOf};
 ghost use Rattle.kt_process.specs.ProcessStates.{ProcessFits};
@@ -8,7 +8,7 @@ ghost use Rattle.kt_node.specs.Managers.{ManagerState, IsSoundManager};
 ghost use Rattle.kt_node.specs.Links.{NodeLinks};
 ghost use Rattle.kt_node.specs.OwnParts.{HasOwnPart};
 ghost use Rattle.kt_node_text.specs.Form.{of_manager, of_reach, of_reaches, numbers_of};
-ghost use Rattle.kt_node_text.specs.Ranges.{IsManager, IsRow, AreReaches};
+ghost use Rattle.kt_node_text.specs.Ranges.{IsManager, IsRow, AreReaches, IsNode};
 ghost use Rattle.kt_node_text.specs.Reading.{IsRead, IsReadAs};
 ghost use Rattle.kt_node_text.specs.Sameness.{IsOwn};
 ghost use Rattle.kt_node_text.specs.declared.fault.LoadFault.TheVariants as fault;
@@ -29,6 +29,7 @@ use processes::process;
 
 /// Which process of how many.
 fn place(numbers: &mut Numbers) -> Result<(usize, ProcNo), LoadFault>
+    ensures taken { IfOk result (λ x. numbers.old.rest.now ≡ x.0 ∷ x.1 ∷ numbers.new.rest.now) }
     ensures few { IfOk result (λ x. x.0 ≤ 64) }
     ensures within { IfOk result (λ x. x.1 < x.0) }
     ensures read { (n p : ℕ) (after : List ℕ) → n ≤ 64 → p < n →
@@ -45,6 +46,8 @@ fn place(numbers: &mut Numbers) -> Result<(usize, ProcNo), LoadFault>
 
 /// A manager.
 fn manager(alloc: Global, numbers: &mut Numbers) -> Result<Manager, LoadFault>
+    ensures taken { IfOk result (λ m. numbers.old.rest.now ≡ of_manager m ++ numbers.new.rest.now) }
+    ensures range { IfOk result IsManager }
     ensures own { IfOk result (λ m. HasOwnPart m) }
     ensures read { (w : ManagerState) (after : List ℕ) →
         IsSoundManager w → HasOwnPart w → ProcessFits w.process → IsManager w →
@@ -56,7 +59,7 @@ fn manager(alloc: Global, numbers: &mut Numbers) -> Result<Manager, LoadFault>
     let inst = numbers.name()?;
     let process = process(alloc, size, numbers)?;
     let inbox = inbox(alloc, size, numbers)?;
-    let asks = numbers.names()?;
+    let asks = numbers.asks()?;
     let answered = set_of(numbers.next()?);
     let parts = ManagerParts {
         me,
@@ -72,7 +75,9 @@ fn manager(alloc: Global, numbers: &mut Numbers) -> Result<Manager, LoadFault>
 
 /// How far messages go.
 fn reach(numbers: &mut Numbers) -> Result<Reach, LoadFault>
-    ensures { (r : Reach) (after : List ℕ) → IsRow r.received →
+    ensures taken { IfOk result (λ r. numbers.old.rest.now ≡ of_reach r ++ numbers.new.rest.now) }
+    ensures range { IfOk result (λ r. IsRow r.received) }
+    ensures read { (r : Reach) (after : List ℕ) → IsRow r.received →
         numbers.old.rest.now ≡ of_reach r ++ after → IsRead r after result numbers.new.rest.now }
 {
     let sent = numbers.next()?;
@@ -82,7 +87,9 @@ fn reach(numbers: &mut Numbers) -> Result<Reach, LoadFault>
 
 /// How far the messages of its histories go.
 fn reaches(numbers: &mut Numbers) -> Result<Reaches, LoadFault>
-    ensures { (r : Reaches) (after : List ℕ) → AreReaches r →
+    ensures taken { IfOk result (λ r. numbers.old.rest.now ≡ of_reaches r ++ numbers.new.rest.now) }
+    ensures range { IfOk result AreReaches }
+    ensures read { (r : Reaches) (after : List ℕ) → AreReaches r →
         numbers.old.rest.now ≡ of_reaches r ++ after →
         IsRead r after result numbers.new.rest.now }
 {
@@ -98,9 +105,9 @@ fn reaches(numbers: &mut Numbers) -> Result<Reaches, LoadFault>
 
 /// The node whose numbers begin so.
 pub(crate) fn node_of(alloc: Global, numbers: &[u64]) -> Result<Node, LoadFault>
+    ensures taken { IfOk result (λ v. numbers.now ≡ numbers_of v) }
+    ensures range { IfOk result IsNode }
     ensures own { IfOk result (λ v. HasOwnPart v.manager) }
-    ensures ok { (w : NodeLinks) → IsOwn w → numbers.now ≡ numbers_of w →
-        IfOk result (λ v. numbers_of v ≡ numbers.now) }
     ensures form { IsErrOf result fault.Form → (w : NodeLinks) → IsOwn w →
         numbers.now ≡ numbers_of w → ⊥ }
 {
@@ -113,5 +120,8 @@ pub(crate) fn node_of(alloc: Global, numbers: &[u64]) -> Result<Node, LoadFault>
     let sent = numbers.row()?;
     let taken = numbers.row()?;
     let reaches = reaches(&mut numbers)?;
+    if !numbers.is_done() {
+        return Err(LoadFault::Form);
+    }
     Node::of(manager, clock, sent, taken, reaches).ok_or(LoadFault::Form)
 }

@@ -11,10 +11,10 @@ pub(crate) fn bits_of(set: ProcSet) -> u64
     same_members();
     members_in_range();
     let mut bits: u64 = 0;
-    for number in 0..ProcNo::COUNT {
-        if set.has(ProcNo::nth(number)) {
-            bits |= 1 << number;
-        }
+    let mut rest = set;
+    while let Some(member) = rest.first() {
+        bits |= 1 << member.get();
+        rest = rest.without(member);
     }
     bits
 }
@@ -26,10 +26,11 @@ pub(crate) fn set_of(bits: u64) -> ProcSet
     same_members();
     members_in_range();
     let mut set = ProcSet::empty();
-    for number in 0..ProcNo::COUNT {
-        if (bits >> number) & 1 == 1 {
-            set = set.with(ProcNo::nth(number));
-        }
+    let mut rest = bits;
+    while rest != 0 {
+        let number = rest.trailing_zeros() as u8;
+        set = set.with(ProcNo::nth(number));
+        rest &= !(1 << number);
     }
     set
 }

@@ -47,10 +47,6 @@ pub fn load(alloc: Global, bytes: &[u8]) -> Result<Node, LoadFault>
     };
     let numbers = bytes::numbers_of(alloc, text)?;
     let node = reading::node_of(alloc, &numbers)?;
-    let again = writing::numbers_of(alloc, &node)?;
-    if again.as_slice() == numbers.as_slice() {
-        Ok(node)
-    } else {
-        Err(LoadFault::Form)
-    }
+    writing::parts_belong(&node);
+    Ok(node)
 }

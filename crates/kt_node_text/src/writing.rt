@@ -2,7 +2,7 @@
 
 ghost use Rattle.std.specs.Prelude.{◌≡◌, ◌<◌, ◌++◌, ◌∷◌, All, IfSome, IfOk, OnOk};
 ghost use Rattle.std.specs.Option.{option_copied};
-ghost use Rattle.kt_node_text.specs.Form.{of_optional, of_flag, of_list, counted, of_pair, of_item, of_lists, of_tables, of_part, of_side, of_process, of_name, of_manager, of_reach, of_reaches, numbers_of};
+ghost use Rattle.kt_node_text.specs.Form.{of_optional, of_flag, of_row, counted, of_pair, of_item, of_inbox, of_asks, of_tables, of_part, of_side, of_process, of_name, of_manager, of_reach, of_reaches, numbers_of};
 ghost use Rattle.kt_base.specs.Numbers.{IsProcNo};
 ghost use Rattle.kt_node_text.specs.Ranges.{IsPair, IsPart, IsSide, IsState, IsProcess, IsNameIfAny, IsItem, AreLists, IsManager, IsRow, AreReaches, IsNode};
 ghost use Rattle.kt_node_text.specs.Sameness.{IsSound};
@@ -22,7 +22,7 @@ use kt_tables::Tables;
 use std::alloc::Global;
 
 /// The version of the form.
-pub(crate) const VERSION: u64 = 2;
+pub(crate) const VERSION: u64 = 3;
 
 /// One more than the number of a process, 0 for none.
 fn optional(process: Option<ProcNo>) -> u64
@@ -35,23 +35,31 @@ fn optional(process: Option<ProcNo>) -> u64
     }
 }
 
-/// Adds a list of numbers.
-fn put_list(out: &mut Vec<u64>, numbers: &[u64]) -> Result<(), Memory>
-    ensures { OnOk result (out.new.items ≡ out.old.items ++ of_list numbers.now) }
+/// Adds numbers by process, of those that are not 0.
+fn put_row(out: &mut Vec<u64>, numbers: &[u64]) -> Result<(), Memory>
+    ensures { OnOk result (out.new.items ≡ out.old.items ++ of_row numbers.now) }
 {
     out.push(numbers.len() as u64)?;
-    out.extend_from_slice(numbers)?;
+    for (place, number) in numbers.iter().enumerate() {
+        if *number != 0 {
+            out.extend_from_slice(&[place as u64 + 1, *number])?;
+        }
+    }
+    out.push(0)?;
     Ok(())
 }
 
-/// Adds the marks of a checkpoint.
+/// Adds the marks of a checkpoint, of those that are not 0.
 fn put_marks(out: &mut Vec<u64>, marks: &[usize]) -> Result<(), Memory>
-    ensures { OnOk result (out.new.items ≡ out.old.items ++ of_list marks.now) }
+    ensures { OnOk result (out.new.items ≡ out.old.items ++ of_row marks.now) }
 {
     out.push(marks.len() as u64)?;
-    for mark in marks {
-        out.push(*mark as u64)?;
+    for (place, mark) in marks.iter().enumerate() {
+        if *mark != 0 {
+            out.extend_from_slice(&[place as u64 + 1, *mark as u64])?;
+        }
     }
+    out.push(0)?;
     Ok(())
 }
 
@@ -143,15 +151,22 @@ fn put_name(out: &mut Vec<u64>, inst: Option<InstName>) -> Result<(), Memory>
     Ok(())
 }
 
-/// Adds names of instances, where there are some, after how many there are.
-fn put_names(out: &mut Vec<u64>, names: &[Option<InstName>]) -> Result<(), Memory>
-    ensures numbers { OnOk result (out.new.items ≡ out.old.items ++ counted of_name names.now) }
+/// Adds names of instances by process, where there are some.
+fn put_asks(out: &mut Vec<u64>, names: &[Option<InstName>]) -> Result<(), Memory>
+    ensures numbers { OnOk result (out.new.items ≡ out.old.items ++ of_asks names.now) }
     ensures range { OnOk result (All IsNameIfAny names.now) }
 {
     out.push(names.len() as u64)?;
-    for name in names {
-        put_name(out, *name)?;
+    for (place, name) in names.iter().enumerate() {
+        if let Some(name) = name {
+            out.extend_from_slice(&[
+                place as u64 + 1,
+                u64::from(name.initiator.get()),
+                name.count.get(),
+            ])?;
+        }
     }
+    out.push(0)?;
     Ok(())
 }
 
@@ -161,9 +176,7 @@ fn put_item(out: &mut Vec<u64>, item: &Item) -> Result<(), Memory>
     ensures range { OnOk result (IsItem item.now) }
 {
     out.extend_from_slice(&[
-        0,
         item.label.get(),
-        1,
         u64::from(item.body < 0),
         item.body.unsigned_abs(),
     ])?;
@@ -205,27 +218,22 @@ fn put_held(out: &mut Vec<u64>, inbox: &Inbox, from: ProcNo) -> Result<(), Memor
     Ok(())
 }
 
-/// Adds the messages that are held of each process.
-fn put_all_held(out: &mut Vec<u64>, inbox: &Inbox) -> Result<(), Memory>
+/// Adds the messages of each process of which there are some.
+fn put_inbox(out: &mut Vec<u64>, inbox: &Inbox) -> Result<(), Memory>
     ensures numbers { OnOk result (out.new.items
-        ≡ out.old.items ++ of_lists (processes_of inbox.now) (held_of inbox.now)) }
-    ensures range { OnOk result (AreLists (processes_of inbox.now) (held_of inbox.now)) }
+        ≡ out.old.items ++ of_inbox (processes_of inbox.now) inbox.now) }
+    ensures kept { OnOk result (AreLists (processes_of inbox.now) (kept_of inbox.now)) }
+    ensures held { OnOk result (AreLists (processes_of inbox.now) (held_of inbox.now)) }
 {
     for number in 0..inbox.processes() as u8 {
-        put_held(out, inbox, ProcNo::nth(number))?;
+        let from = ProcNo::nth(number);
+        if inbox.len(from) != 0 {
+            out.push(u64::from(number) + 1)?;
+            put_kept(out, inbox, from)?;
+            put_held(out, inbox, from)?;
+        }
     }
-    Ok(())
-}
-
-/// Adds the messages that are kept of each process.
-fn put_all_kept(out: &mut Vec<u64>, inbox: &Inbox) -> Result<(), Memory>
-    ensures numbers { OnOk result (out.new.items
-        ≡ out.old.items ++ of_lists (processes_of inbox.now) (kept_of inbox.now)) }
-    ensures range { OnOk result (AreLists (processes_of inbox.now) (kept_of inbox.now)) }
-{
-    for number in 0..inbox.processes() as u8 {
-        put_kept(out, inbox, ProcNo::nth(number))?;
-    }
+    out.push(0)?;
     Ok(())
 }
 
@@ -241,9 +249,8 @@ fn put_manager(out: &mut Vec<u64>, manager: &Manager) -> Result<(), Memory>
     ])?;
     put_name(out, manager.in_inst())?;
     put_process(out, manager.process())?;
-    put_all_held(out, manager.inbox())?;
-    put_all_kept(out, manager.inbox())?;
-    put_names(out, manager.asks())?;
+    put_inbox(out, manager.inbox())?;
+    put_asks(out, manager.asks())?;
     out.push(bits_of(manager.answered()))?;
     Ok(())
 }
@@ -254,7 +261,7 @@ fn put_reach(out: &mut Vec<u64>, reach: &Reach) -> Result<(), Memory>
     ensures range { OnOk result (IsRow reach.now.received) }
 {
     out.push(reach.sent)?;
-    put_list(out, &reach.received)
+    put_row(out, &reach.received)
 }
 
 /// Adds how far the messages of its histories go.
@@ -274,13 +281,13 @@ fn put_node(out: &mut Vec<u64>, node: &Node) -> Result<(), Memory>
 {
     out.extend_from_slice(&[VERSION, node.clock()])?;
     put_manager(out, node.manager())?;
-    put_list(out, node.sent())?;
-    put_list(out, node.taken())?;
+    put_row(out, node.sent())?;
+    put_row(out, node.taken())?;
     put_reaches(out, node.reaches())
 }
 
 /// What is so of each node.
-fn parts_belong(node: &Node)
+pub(crate) fn parts_belong(node: &Node)
     ensures manager { IsSoundManager node.now.manager }
     ensures process { ProcessFits node.now.manager.process }
     ensures counted { AreCounted node.now }

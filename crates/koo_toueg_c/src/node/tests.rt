@@ -70,9 +70,9 @@ fn opens(rt: HostRuntime) {
     for (me, processes) in [(2, 2), (0, 65)] {
         assert!(rt; kt_node_new(rt.alloc(), me, processes, &mut state, &mut len) == 2 && len == 0);
     }
-    assert!(rt; kt_node_new(rt.alloc(), 0, 2, &mut state[..8], &mut len) == 5 && len > 2600);
-    assert!(rt; kt_node_new(rt.alloc(), 63, 64, &mut state[..8], &mut len) == 5 && len > 4096);
-    assert!(rt; kt_node_new(rt.alloc(), 0, 2, &mut state, &mut len) == 0 && state[0] == 2);
+    assert!(rt; kt_node_new(rt.alloc(), 0, 2, &mut state[..8], &mut len) == 5 && len == 260);
+    assert!(rt; kt_node_new(rt.alloc(), 63, 64, &mut state[..8], &mut len) == 5 && len == 260);
+    assert!(rt; kt_node_new(rt.alloc(), 0, 2, &mut state, &mut len) == 0 && state[0] == 3);
 }
 
 #[test]

@@ -1,7 +1,7 @@
 use Rattle.std.proofs.Common.{◌∷◌, ◌++◌, refl}
 use Rattle.std.specs.Int.{w32, to_le_bytes}
 use Rattle.kt_checksum.specs.Checksums.{checksum}
-use Rattle.kt_node_text.specs.Form.{bytes_of, of_manager, of_list, of_reaches, numbers_of}
+use Rattle.kt_node_text.specs.Form.{bytes_of, of_manager, of_row, of_reaches, numbers_of}
 use Rattle.kt_node_text.proofs.Same.{same_numbers}
 use Rattle.kt_node_text.proofs.Words.{same_bytes, bytes_fit}
 use Rattle.kt_node_text.proofs.laws.one_text.Goals as goal
@@ -15,7 +15,7 @@ returns-clause-apart c = λ w v f g d.
 
 pub returns-clause-words : goal.returns-clause-words
 returns-clause-words c = λ w. (
-  bytes_of (w.clock ∷ of_manager w.manager ++ (of_list w.sent ++ (of_list w.taken ++ of_reaches w.reaches)))
+  bytes_of (w.clock ∷ of_manager w.manager ++ (of_row w.sent ++ (of_row w.taken ++ of_reaches w.reaches)))
       ++ to_le_bytes w32 (checksum (bytes_of (numbers_of w))),
   refl,
 )

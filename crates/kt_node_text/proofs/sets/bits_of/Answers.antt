@@ -1,25 +1,22 @@
-use Rattle.std.proofs.Common.{◌≡◌, ◌∙◌, arith, refl, sym, ap, w64}
+use Rattle.std.proofs.Common.{◌≡◌, ◌<◌, refl, w64, subst, ℕ}
 use Rattle.std.proofs.lemmas.Nat.Bits.{bit_at_set_same, bit_at_set_other}
-use Rattle.kt_base.specs.Sets.{has}
-use Rattle.kt_node_text.proofs.Bits.{has_none, below_none, below_more, below_same, below_all}
+use Rattle.kt_node_text.proofs.Bits.{has_none, none_moved, one_moved, all_moved, fewer}
 use Rattle.kt_node_text.proofs.sets.bits_of.Goals as goal
-use Rattle.kt_node_text.proofs.sets.bits_of.Goals.{then-has, else-has}
 
-pub loop-number-init : goal.loop-number-init
-loop-number-init c = below_none _ _ has_none
+pub loop-member-init : goal.loop-member-init
+loop-member-init c = none_moved _ _ has_none
 
-pub loop-number-preserved : goal.loop-number-preserved
-loop-number-preserved c =
-    let n = c.loop-number.number in
-    let is : c.has.result ≡ has c.args.set n = c.has.ensures ∙ ap (has c.args.set) c.nth.ensures in
-    elim c.if-has.branch [
-      | then-has w ↦ below_more c.args.set c.loop-number.bits c.if-has.bits n c.loop-number.invariant (sym is ∙ w.if-has.true)
-          (rw (w.bits-is, bit_at_set_same w64 c.loop-number.bits n c.loop-number-test.true) refl)
-          (λ q other. rw (w.bits-is, bit_at_set_other w64 c.loop-number.bits n c.loop-number-test.true q other) refl)
-      | else-has w ↦ rw w.bits-is (below_same c.args.set c.loop-number.bits n c.loop-number.invariant (sym is ∙ w.if-has.false))
-    ]
+pub loop-member-smaller : goal.loop-member-smaller
+loop-member-smaller c =
+    let few : c.in-Some.member < 64 = subst (λ (n : ℕ). n < 64) c.get.ensures.value c.get.ensures.in_range in
+    fewer c.loop-member.rest c.without-rest.result c.in-Some.member few c.in-Some.ensures.member c.without-rest.ensures.removed c.without-rest.ensures.others
+
+pub loop-member-preserved : goal.loop-member-preserved
+loop-member-preserved c =
+    one_moved c.args.set c.loop-member.bits _ c.loop-member.rest c.without-rest.result c.in-Some.member c.loop-member.invariant c.in-Some.ensures.member
+    (rw (← c.get.ensures.value, bit_at_set_same w64 c.loop-member.bits c.get.result c.get.ensures.in_range) refl)
+    (λ q other. rw (bit_at_set_other w64 c.loop-member.bits c.get.result c.get.ensures.in_range q (rw (← c.get.ensures.value) at other)) refl)
+    c.without-rest.ensures.removed c.without-rest.ensures.others
 
 pub returns : goal.returns
-returns c =
-    c.same_members.ensures _ _ (below_all c.args.set c.loop-number.bits c.loop-number.number c.loop-number.invariant (omega arith)
-    (λ q e. c.members_in_range.ensures c.args.set q (omega arith) e))
+returns c = c.same_members.ensures _ _ (all_moved c.args.set c.loop-member.bits c.loop-member.rest c.loop-member.invariant c.in_default.ensures.none)

@@ -1,5 +1,10 @@
-use Rattle.kt_node_text.proofs.Rests.{IsWithTail}
+use Rattle.std.specs.Prelude.{All, None}
+use Rattle.std.proofs.Common.{◌≡◌, ◌++◌, take}
+use Rattle.kt_node_text.specs.Form.{gather, of_some, of_ask}
+use Rattle.kt_node_text.specs.Ranges.{IsNameIfAny}
+use Rattle.kt_node_text.proofs.Sparse.{parts}
+use Rattle.kt_node_text.proofs.SparseReads.{forms}
 use Rattle.kt_node_text.proofs.writing.put_marks.Given as goal
 
-abbrev pub invariant-loop-mark : goal.invariant-loop-mark
-invariant-loop-mark l = IsWithTail l.initial.out.items l.marks l.mark-index l.out.items
+abbrev pub invariant-loop-place : goal.invariant-loop-place
+invariant-loop-place l = l.out.items ≡ l.initial.out.items ++ gather l.place (parts (forms of_some 0 l.marks))

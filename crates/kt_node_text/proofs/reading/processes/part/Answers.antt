@@ -11,16 +11,16 @@ from_parent p after = of_optional p.parent ∷ p.asked ∷ p.awaited ∷ of_flag
 abbrev from_asked : Part → List ℕ → List ℕ
 from_asked p after = p.asked ∷ p.awaited ∷ of_flag p.willing ∷ after
 
-pub returns-in_err-awaited : goal.returns-in_err-awaited
-returns-in_err-awaited c = λ p after fits e.
+pub returns-in_err-awaited-clause-read : goal.returns-in_err-awaited-clause-read
+returns-in_err-awaited-clause-read c = λ p after fits e.
     let inst = c.in_ok-inst.ensures.read p.inst (from_parent p after) fits.inst e in
     let parent = c.in_ok-parent.ensures.read p.parent (from_asked p after) fits.parent inst.1 in
     let asked = c.in_ok-next.ensures.read p.asked (p.awaited ∷ of_flag p.willing ∷ after) parent.1 in
     let few : p.awaited ≤ c.from.result = omega (arith, fits.awaited) in
     stops _ _ _ _ _ c.from_residual-in_err-awaited.ensures.1 (c.in_err-awaited.ensures.read p.awaited (of_flag p.willing ∷ after) few asked.1)
 
-pub returns-in_err-willing : goal.returns-in_err-willing
-returns-in_err-willing c = λ p after fits e.
+pub returns-in_err-willing-clause-read : goal.returns-in_err-willing-clause-read
+returns-in_err-willing-clause-read c = λ p after fits e.
     let inst = c.in_ok-inst.ensures.read p.inst (from_parent p after) fits.inst e in
     let parent = c.in_ok-parent.ensures.read p.parent (from_asked p after) fits.parent inst.1 in
     let asked = c.in_ok-next.ensures.read p.asked (p.awaited ∷ of_flag p.willing ∷ after) parent.1 in
@@ -28,8 +28,8 @@ returns-in_err-willing c = λ p after fits e.
     let awaited = c.in_ok-awaited.ensures.read p.awaited (of_flag p.willing ∷ after) few asked.1 in
     stops _ _ _ _ _ c.from_residual-in_err-willing.ensures.1 (c.in_err-willing.ensures.read p.willing after awaited.1)
 
-pub returns : goal.returns
-returns c = λ p after fits e.
+pub returns-clause-read : goal.returns-clause-read
+returns-clause-read c = λ p after fits e.
     let inst = c.in_ok-inst.ensures.read p.inst (from_parent p after) fits.inst e in
     let parent = c.in_ok-parent.ensures.read p.parent (from_asked p after) fits.parent inst.1 in
     let asked = c.in_ok-next.ensures.read p.asked (p.awaited ∷ of_flag p.willing ∷ after) parent.1 in
