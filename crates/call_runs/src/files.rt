@@ -1,7 +1,9 @@
 //! The files of cases.
 
 use crate::cases::{Case, next_case};
+use crate::cells::show_cells;
 use crate::certified::show_certified;
+use crate::channels::show_channels;
 use crate::faults::{refused, value_of};
 use crate::inboxes::show_inboxes;
 use crate::meetings::show_meetings;
@@ -65,6 +67,8 @@ fn show_case<R: Print + AllocGlobal>(
         "meetings" => show_meetings(rt, case),
         "node-steps" => show_run(rt, case),
         "node-texts" => show_node_texts(rt, case),
+        "channels" => show_channels(rt, case),
+        "cells" => show_cells(rt, case),
         "tables" => show_tables(rt, case),
         "inboxes" => show_inboxes(rt, case),
         "plays" => show_plays(rt, case),

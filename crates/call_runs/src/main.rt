@@ -3,6 +3,7 @@
 #![tactic(auto)]
 
 mod cases;
+mod cells;
 mod certified;
 mod channels;
 mod drawn;
@@ -27,7 +28,6 @@ mod texts;
 mod told;
 mod walks;
 
-use channels::show_channels;
 use drawn::show_drawn;
 use files::show_files;
 use handlers::show_handlers;
@@ -38,7 +38,6 @@ use std::io;
 
 fn main(rt: HostRuntime) -> io::Result<()> {
     show_limits(&rt)?;
-    show_channels(&rt)?;
     show_handlers(&rt)?;
     show_slots(&rt)?;
     show_long_logs(&rt)?;

@@ -18,12 +18,12 @@ use Rattle.kt_protocol.specs.States as machine
 use Rattle.kt_machine.specs.Seen.{Seen}
 use Rattle.kt_machine.specs.Transition.{transition, opening_seen}
 use Rattle.kt_process.specs.ProcessStates.{ProcessState, part_of_side, IsNumbered}
-use Rattle.kt_system.specs.Systems.{Whole, state_of, no_process, IsSameSystem}
+use Rattle.kt_system.specs.Systems.{Whole, state_of, IsSameSystem}
 use Rattle.kt_system.specs.declared.system.Tally.{Tally}
 use Rattle.kt_system.specs.Reads.{tally_of, no_tally as none_counted}
 use Rattle.kt_system.specs.Tallies.{TalliesPut, taken_off}
 use Rattle.kt_system.specs.Shown.{ShowsState}
-use Rattle.kt_system.proofs.Showing.{shows_same}
+use Rattle.kt_system.proofs.Stepping.{shows_same}
 use Rattle.kt_machine.specs.Values.{Act}
 use Rattle.kt_machine.specs.Acts.{stepper}
 use Rattle.kt_machine.specs.SeenActs.{seen_acts}
@@ -227,8 +227,7 @@ start_leads laws a b s first i size num shows n bp bn opens room =
 
 -- the same but for spare room
 numbered_same : (s t : Whole) → IsSameSystem t s → AreNumbered s → AreNumbered t
-unfolding state_of
-numbered_same s t e num p l = subst (λ (states : List ProcessState). IsNumbered (part_of_side (slice_index_or states p no_process).side)) (sym e.states) (num p (let z = e.size in omega (arith, l, z)))
+numbered_same s t e num p l = subst (λ (x : ProcessState). IsNumbered (part_of_side x.side)) (sym (e.states p)) (num p (let z = e.size in omega (arith, l, z)))
 
 pub run_same : (a : Agenda) (s t : Whole) (first : ℕ) (v : run_world.Progress) → IsSameSystem t s → Mirrors a s first v → Mirrors a t first v
 run_same a s t first v e r = record {

@@ -15,3 +15,4 @@ pub mod Tallied
 pub mod Making
 pub mod Choices
 pub mod Counted
+pub mod Quieting

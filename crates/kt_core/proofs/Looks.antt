@@ -22,9 +22,9 @@ use Rattle.kt_process.specs.ProcessStates.{ProcessState, inst_of, is_ready, part
 use Rattle.kt_process.specs.Shown.{IsSeenAs}
 use Rattle.kt_machine.specs.Seen.{Seen, SeenProcess, SeenLists}
 use Rattle.kt_machine.specs.CallTests.{must_take}
-use Rattle.kt_system.specs.Systems.{state_of}
+use Rattle.kt_system.specs.Systems.{state_of, held_in}
 use Rattle.kt_system.specs.Reads.{next_parcel, saves_by, would_save}
-use Rattle.kt_system.proofs.Replying.{ready_seen}
+use Rattle.kt_system.proofs.Seeing.{ready_seen}
 use Rattle.kt_promises.specs.Looks as run_looks
 use Rattle.kt_core.specs.declared.faults.StepFault.{StepFault}
 use Rattle.kt_core.specs.declared.ready.Ready.{Ready}
@@ -126,7 +126,7 @@ module _ (laws : PlanLaws) (w : World) (first : ℕ) (v : Progress) (r : Mirrors
   take_look : (p q : ℕ) → p < w.system.size → (if would_save w.system p q then NeedsSave else Plain) ≡ run_looks.look_of_step plan v ((Take p q))
   unfolding next_parcel
   take_look p q l =
-      parcel_look (state_of w.system p) v.now first p q (is_ready (state_of w.system p).side) (channel w.system.held q p) (channel w.system.channels q p) refl (r.now.states p l) (r.numbered p l)
+      parcel_look (state_of w.system p) v.now first p q (is_ready (state_of w.system p).side) (held_in w.system q p) (channel w.system.channels q p) refl (r.now.states p l) (r.numbered p l)
       (subst (λ (f : SeenLists). AreMessagesTo first v.now.log q p (f q p)) (sym r.now.held) (laws.held plan first v p q r.limits r.reached))
       ∙ λ i. if not (ready_seen (state_of w.system p) v.now p (r.now.states p l) (r.numbered p l) i) && has_parcel (r.now.held i q p) then Plain else run_looks.look_of_front v.now p q (r.now.channels i q p)
 

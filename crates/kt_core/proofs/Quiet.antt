@@ -13,10 +13,10 @@ use Rattle.kt_process.specs.declared.side.Side.{Side}
 use Rattle.kt_process.specs.declared.side.Side.TheVariants as side
 use Rattle.kt_machine.specs.Seen.{Seen, SeenProcess, SeenLists}
 use Rattle.kt_machine.specs.Transition.{opening_seen, is_seen_ready}
-use Rattle.kt_system.specs.Systems.{Whole, state_of}
+use Rattle.kt_system.specs.Systems.{Whole, state_of, held_in}
 use Rattle.kt_system.specs.Reads.{IsQuietSystem, next_parcel, can_take}
 use Rattle.kt_system.specs.Shown.{ShowsState}
-use Rattle.kt_system.proofs.Replying.{ready_seen}
+use Rattle.kt_system.proofs.Seeing.{ready_seen}
 use Rattle.kt_promises.specs.Progress.{is_quiet}
 use Rattle.kt_promises.specs.Steps.{can_take_from}
 use Rattle.kt_fifo.specs.Queues.{has_parcel}
@@ -82,12 +82,12 @@ pub quiet_shown : (n : ℕ) (s : Whole) (v : Seen) → ShowsState s v → s.size
 quiet_shown n s v h e num quiet = none_of_if n (is_busy n v) (λ p l. let low : p < s.size = omega (arith, l, e) in
     quiet_at (v.states p).inst (none_of n (has_any v p)) (sym (closed_is (state_of s p) (v.states p) (h.states p low) (num p low)) ∙ inside (inst_of (state_of s p).side) (quiet.outside p low))
     (none_of_if n (has_any v p) (λ q k. let there : q < s.size = omega (arith, k, e) in
-    no_parcel (v.channel q p) (v.held q p) (sym (pair_at (channel s.channels) v.channel q p h.channels) ∙ quiet.channels q p there low) (sym (pair_at (channel s.held) v.held q p h.held) ∙ quiet.held q p there low))))
+    no_parcel (v.channel q p) (v.held q p) (sym (pair_at (channel s.channels) v.channel q p h.channels) ∙ quiet.channels q p there low) (sym (pair_at (held_in s) v.held q p h.held) ∙ quiet.held q p there low))))
 
 pub quiet_from : (n : ℕ) (s : Whole) (v : Seen) → ShowsState s v → s.size ≡ n → AreNumbered s → is_quiet n v ≡ true → IsQuietSystem s
 quiet_from n s v h e num quiet = record {
   channels = λ p q l k. pair_at (channel s.channels) v.channel p q h.channels ∙ (empty_lists (v.channel p q) (v.held p q) (lists q p k l)).0;
-  held = λ p q l k. pair_at (channel s.held) v.held p q h.held ∙ (empty_lists (v.channel p q) (v.held p q) (lists q p k l)).1;
+  held = λ p q l k. pair_at (held_in s) v.held p q h.held ∙ (empty_lists (v.channel p q) (v.held p q) (lists q p k l)).1;
   outside = λ p l. outside (inst_of (state_of s p).side) (closed_is (state_of s p) (v.states p) (h.states p l) (num p l) ∙ (parts p l).0);
 }
   where
@@ -112,7 +112,7 @@ taken_if false (y ∷ ys) (x ∷ xs) = refl
 -- what can be taken
 pub can_take_is : (s : Whole) (v : Seen) (p q : ℕ) → ShowsState s v → AreNumbered s → p < s.size → can_take s p q ≡ can_take_from v p q
 unfolding next_parcel
-can_take_is s v p q h num l = taken_if (is_ready (state_of s p).side) (channel s.held q p) (channel s.channels q p)
-    ∙ (ap (λ (b : Bool). has_parcel (channel s.channels q p) || not b && has_parcel (channel s.held q p)) (ready_seen (state_of s p) v p (h.states p l) (num p l))
-    ∙ (ap (λ (f : SeenLists). has_parcel (f q p) || not (is_seen_ready v p) && has_parcel (channel s.held q p)) h.channels
+can_take_is s v p q h num l = taken_if (is_ready (state_of s p).side) (held_in s q p) (channel s.channels q p)
+    ∙ (ap (λ (b : Bool). has_parcel (channel s.channels q p) || not b && has_parcel (held_in s q p)) (ready_seen (state_of s p) v p (h.states p l) (num p l))
+    ∙ (ap (λ (f : SeenLists). has_parcel (f q p) || not (is_seen_ready v p) && has_parcel (held_in s q p)) h.channels
     ∙ ap (λ (f : SeenLists). has_parcel (v.channel q p) || not (is_seen_ready v p) && has_parcel (f q p)) h.held))

@@ -16,11 +16,11 @@ use Rattle.kt_machine.specs.Seen.{Seen, SeenLists}
 use Rattle.kt_machine.specs.Transition.{is_seen_ready}
 use Rattle.kt_process.specs.ProcessStates.{is_ready}
 use Rattle.kt_system.specs.declared.system.Tally.{Tally}
-use Rattle.kt_system.specs.Systems.{Whole, state_of}
+use Rattle.kt_system.specs.Systems.{Whole, state_of, held_in}
 use Rattle.kt_system.specs.Reads.{tally_of, no_tally}
 use Rattle.kt_system.specs.Shown.{ShowsState}
 use Rattle.kt_system.specs.Tallies as system
-use Rattle.kt_system.proofs.Replying.{ready_seen}
+use Rattle.kt_system.proofs.Seeing.{ready_seen}
 use Rattle.kt_promises.specs.Work.{begins_instance, count_begins}
 use Rattle.kt_promises.specs.Tallies.{Tallies, total_below, IsRaised, RunPuts, count_in_channels, count_in_front, count_where, is_ask_of, is_decision_of, is_reply_of, taken_off}
 use Rattle.kt_promises.specs.Progress.{Progress}
@@ -72,8 +72,8 @@ module _ (f g : Parcel → Bool) (h : Same f g) where
   -- what is taken off a channel
   pub taken_is : (s : Whole) (v : Seen) (p q : ℕ) → ShowsState s v → AreNumbered s → p < s.size → count_by f (system.taken_off s p q) ≡ taken_off v (Take p q) g
   taken_is s v p q shows num l =
-      at_lists (is_ready (state_of s p).side) (channel s.held q p) (channel s.channels q p)
-      ∙ (ap (λ (b : Bool). if not b && has_parcel (channel s.held q p) then 0 else count_in_front g (channel s.channels q p)) (ready_seen (state_of s p) v p (shows.states p l) (num p l))
+      at_lists (is_ready (state_of s p).side) (held_in s q p) (channel s.channels q p)
+      ∙ (ap (λ (b : Bool). if not b && has_parcel (held_in s q p) then 0 else count_in_front g (channel s.channels q p)) (ready_seen (state_of s p) v p (shows.states p l) (num p l))
       ∙ (ap (λ (x : SeenLists). if not (is_seen_ready v p) && has_parcel (x q p) then 0 else count_in_front g (channel s.channels q p)) shows.held
       ∙ ap (λ (x : SeenLists). if not (is_seen_ready v p) && has_parcel (v.held q p) then 0 else count_in_front g (x q p)) shows.channels))
     where

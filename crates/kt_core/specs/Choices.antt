@@ -1,12 +1,12 @@
 -- All steps that processes could make, and those that are enabled.
 use Rattle.std.specs.Prelude.{◌≡◌, ◌<◌, ℕ, zero, suc, true, false, Option, Some, None, ◌++◌, List, [], ◌∷◌, filter, length}
 use Rattle.kt_base.specs.Sets.{has}
-use Rattle.kt_fifo.specs.Channels.{channel}
 use Rattle.kt_plan.specs.declared.steps.Step.{Step}
 use Rattle.kt_plan.specs.declared.steps.Step.TheVariants.{Do, Take}
 use Rattle.kt_plan.specs.Limits.{Planned}
 use Rattle.kt_promises.specs.Progress.{Progress}
 use Rattle.kt_promises.specs.Steps.{enabled, process_of_step}
+use Rattle.kt_system.specs.Systems.{held_in}
 use Rattle.kt_core.specs.Agendas.{open_command}
 use Rattle.kt_core.specs.Worlds.{World, can_make}
 
@@ -38,7 +38,7 @@ enabled_steps plan w = filter (enabled plan w) (all_steps (length plan.names))
 
 -- no parcel is held, and no command is of the open phase: all that can be made are takes of parcels in channels
 pub record HasTakesAlone (w : World) : Type 0 where
-  pub held : (p q : ℕ) → channel w.system.held p q ≡ []
+  pub held : (p q : ℕ) → held_in w.system p q ≡ []
   pub closed : (p : ℕ) → p < w.system.size → open_command w.agenda p ≡ None
 
 -- these processes are there, and no step of any other one can be made

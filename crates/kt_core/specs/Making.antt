@@ -1,5 +1,5 @@
 -- What a step leaves.
-use Rattle.std.specs.Prelude.{◌≡◌, ◌≢◌, ◌≤◌, ℕ, ℤ, true, false, Some, List, length, slice_get}
+use Rattle.std.specs.Prelude.{◌≡◌, ◌≢◌, ◌≤◌, ℕ, ℤ, pos, true, false, Some, List, length, slice_get}
 use Rattle.kt_base.specs.declared.words.Cause.{Cause}
 use Rattle.kt_spacetime.specs.declared.event.Event.TheVariants.{Closed, Unwilling}
 use Rattle.kt_meaning.specs.Past.{past, is_rollback, is_committed}
@@ -67,3 +67,7 @@ pub record MakesStep (old : World) (step : Step) (give : Give) (acts : List Act)
       → LeadsRun old step give acts new first v
   pub aborts : DiscardsAtAborts old acts new
   pub due : (rules : Rules (List ℤ)) → LeadsToDue rules old step acts new
+
+-- what a step is given that needs nothing
+abbrev pub no_give : Give
+no_give = record { able = false; body = pos 0 }

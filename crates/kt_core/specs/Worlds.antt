@@ -13,7 +13,7 @@ use Rattle.kt_fifo.specs.Channels.{channel}
 use Rattle.kt_process.specs.ProcessStates.{ProcessState, inst_of}
 use Rattle.kt_process.specs.Turns.{IsFresh}
 use Rattle.kt_spacetime.specs.declared.event.Event.{Event}
-use Rattle.kt_system.specs.Systems.{Whole, state_of, IsSameSystem}
+use Rattle.kt_system.specs.Systems.{Whole, state_of, held_in, kept_in, IsSameSystem}
 use Rattle.kt_system.specs.Reads.{can_take, would_save, tally_of, no_tally, IsQuietSystem, IsNextTake, HasNoTake}
 use Rattle.kt_core.specs.Agendas.{Agenda, agenda_place, open_command, IsDone, IsLeastPhase, IsNextOf}
 use Rattle.kt_core.specs.Shown.{IsReached}
@@ -146,8 +146,8 @@ pub record IsOpening (w : World) (plan : Planned) (used limit : ℕ) : Type 0 wh
   pub phase : (least : ℕ) → IsLeastPhase w.agenda least → w.agenda.phase ≡ least
   pub states : (p : ℕ) → p < w.system.size → IsFresh w.system.size used (state_of w.system p)
   pub channels : (p q : ℕ) → channel w.system.channels p q ≡ []
-  pub held : (p q : ℕ) → channel w.system.held p q ≡ []
-  pub kept : (p q : ℕ) → channel w.system.kept p q ≡ []
+  pub held : (p q : ℕ) → held_in w.system p q ≡ []
+  pub kept : (p q : ℕ) → kept_in w.system p q ≡ []
   pub rows : w.system.rows.rows ≡ []
   pub begun : w.system.begun ≡ 0
   pub tallies : (inst : ℕ) → tally_of w.system inst ≡ no_tally

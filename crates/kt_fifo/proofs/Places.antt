@@ -1,25 +1,23 @@
 -- The counts that channels keep, and the pairs that have a parcel.
-use Rattle.std.specs.Prelude.{All, nat_lt, ◌&&◌, if◌then◌else◌, slice_index}
+use Rattle.std.specs.Prelude.{nat_lt, ◌&&◌, if◌then◌else◌, slice_index}
 use Rattle.std.proofs.Common.{◌≡◌, ◌≢◌, ℕ, ◌+◌, ◌*◌, ◌≤◌, ◌<◌, Bool, true, false, List, [], length, get_or, replicate, refl, arith, sym, ap, ◌∙◌, inl, inr}
-use Rattle.std.proofs.lemmas.List.{get_or_default, get_or_past, get_or-replicate, length-replicate}
-use Rattle.std.proofs.lemmas.List.Elements.{All-get_or}
+use Rattle.std.proofs.lemmas.List.{get_or_default, get_or-replicate, length-replicate}
+use Rattle.std.proofs.Math.Path.{fun_ext}
 use Rattle.std.proofs.lemmas.Bool.Decides.{nat_tests}
-use Rattle.std.proofs.lemmas.Bool.{cases_lt, cases_eq}
+use Rattle.std.proofs.lemmas.Bool.{cases_lt}
 use Rattle.kt_base.specs.Sets.{has, count_below, count_of}
-use Rattle.kt_fifo.specs.Queues.{Queue, no_queue, has_parcel}
-use Rattle.kt_fifo.specs.Channels.{ChannelLists, channel, IsWired}
+use Rattle.kt_fifo.specs.declared.parcels.Parcel.{Parcel}
+use Rattle.kt_fifo.specs.Queues.{has_parcel}
+use Rattle.kt_fifo.specs.Channels.{ChannelLists, channel, nothing, IsWired}
 use Rattle.kt_fifo.specs.Counts.{count_first, count_pairs, sum_first, waits, busy_pairs, IsPairAt}
-use Rattle.kt_fifo.proofs.Counting.{below_is, count_is, pairs_are, sum_stays, below_same, below_with, below_few, below_stays, below_none}
+use Rattle.kt_fifo.proofs.Counting.{below_is, count_is, pairs_are, sum_stays, below_with, below_few, below_stays, below_none}
 
-no_queue_past : (n from to : ℕ) (q : Queue) → n ≤ from → (if nat_lt from n && nat_lt to n then q else no_queue) ≡ no_queue
-no_queue_past n from to q l = grind (arith, nat_tests, l)
+no_list_past : (n from to : ℕ) (l : List Parcel) → n ≤ from → (if nat_lt from n && nat_lt to n then l else []) ≡ []
+no_list_past n from to l past = grind (arith, nat_tests, past)
 
 -- a process past all has no parcels in transit
 pub none_past : (w : ChannelLists) (to from : ℕ) → w.processes ≤ from → waits w to from ≡ false
-none_past w to from l = ap (λ (q : Queue). has_parcel q.parcels) (no_queue_past w.processes from to (slice_index_queue w from to) l)
-  where
-    slice_index_queue : (w : ChannelLists) (from to : ℕ) → Queue
-    slice_index_queue w from to = get_or w.queues (from * w.processes + to) no_queue
+none_past w to from l = ap has_parcel (no_list_past w.processes from to (get_or w.queues (from * w.processes + to) []) l)
 
 module _ (w : ChannelLists) (senders counts : List ℕ) (receivers : ℕ) (k : IsWired w senders counts receivers) where
   -- what is counted are the senders
@@ -60,27 +58,8 @@ module _ (w : ChannelLists) (senders counts : List ℕ) (receivers : ℕ) (k : I
             omega (arith, pairs, firsts, same, e, before);
       }
 
-  -- no set of senders is shorter than its count
-  pub pair_lost : (to left set : ℕ) → left < slice_index counts to → set ≡ get_or senders to set → count_of set ≤ left → ⊥
-  pair_lost to left set l read few =
-      let there = counted_there to left l in
-      let sized = k.one_each in
-      let is : set ≡ slice_index senders to = read ∙ get_or_default senders to set 0 (omega (arith, there, sized)) in
-      let same = ap count_of is in
-      let counted = k.counted to there in
-      omega (arith, same, counted, l, few)
-
--- one sender came or went, or none did
+-- one sender came or went
 module _ (before senders from : ℕ) (low : from < 64) (others : (q : ℕ) → q ≢ from → has senders q ≡ has before q) where
-  pub same_count : has senders from ≡ has before from → count_of before ≡ count_of senders
-  same_count e = below_same before senders 64 (λ q _. all q)
-    where
-      all : (q : ℕ) → has before q ≡ has senders q
-      all q = elim (cases_eq q from) [
-        | inl same ↦ ap (has before) same ∙ (sym e ∙ ap (has senders) (sym same))
-        | inr other ↦ sym (others q other)
-      ]
-
   pub one_came : has senders from ≡ true → has before from ≡ false → count_of senders ≡ count_of before + 1
   one_came on off = below_with senders before from 64 low others on off
 
@@ -95,21 +74,18 @@ pub none_counted : (set : ℕ) → ((q : ℕ) → has set q ≡ false) → count
 none_counted set none = below_stays set 0 64 (omega arith) (λ q _ _. none q) ∙ below_none set
 
 -- channels with nothing in transit
-no_parcels : (qs : List Queue) → All (λ (q : Queue). q.parcels ≡ []) qs → (i : ℕ) → (get_or qs i no_queue).parcels ≡ []
-no_parcels qs none i = elim (cases_lt i (length qs)) [
-  | inl l ↦ All-get_or (λ (q : Queue). q.parcels ≡ []) qs i no_queue l none
-  | inr h ↦ ap (λ (q : Queue). q.parcels) (get_or_past qs i no_queue h)
-]
+either_none : (b : Bool) (l : List Parcel) → l ≡ [] → (if b then l else []) ≡ []
+either_none true l e = e
+either_none false l e = refl
 
-either_none : (b : Bool) (q : Queue) → q.parcels ≡ [] → (if b then q else no_queue).parcels ≡ []
-either_none true q e = e
-either_none false q e = refl
+pub nothing_new : (n spare : ℕ) (queues : List (List Parcel)) → ((j : ℕ) → get_or queues j [] ≡ []) → channel (record { processes = n; queues = queues; spare = spare }) ≡ nothing
+nothing_new n spare queues empty = fun_ext (λ from. fun_ext (λ to. either_none (nat_lt from n && nat_lt to n) (get_or queues (from * n + to) []) (empty (from * n + to))))
 
-pub wired_new : (n : ℕ) (queues : List Queue) (senders counts : List ℕ) (none nobody : ℕ) → n ≤ 64 → length queues ≡ n * n → All (λ (q : Queue). q.parcels ≡ []) queues → senders ≡ replicate n none →
-    ((q : ℕ) → has none q ≡ false) → ((p : ℕ) → slice_index counts p ≡ 0) → ((q : ℕ) → has nobody q ≡ false) → IsWired (record { processes = n; queues = queues }) senders counts nobody
-wired_new n queues senders counts none nobody few square empty are without zero nil =
-    let w : ChannelLists = record { processes = n; queues = queues } in
-    let nothing_there : (from to : ℕ) → channel w from to ≡ [] = λ from to. either_none (nat_lt from n && nat_lt to n) (get_or queues (from * n + to) no_queue) (no_parcels queues empty (from * n + to)) in
+pub wired_new : (n spare : ℕ) (queues : List (List Parcel)) (senders counts : List ℕ) (none nobody : ℕ) → n ≤ 64 → length queues ≡ n * n → ((j : ℕ) → get_or queues j [] ≡ []) → senders ≡ replicate n none →
+    ((q : ℕ) → has none q ≡ false) → ((p : ℕ) → slice_index counts p ≡ 0) → ((q : ℕ) → has nobody q ≡ false) → IsWired (record { processes = n; queues = queues; spare = spare }) senders counts nobody
+wired_new n spare queues senders counts none nobody few square empty are without zero nil =
+    let w : ChannelLists = record { processes = n; queues = queues; spare = spare } in
+    let nothing_there : (from to : ℕ) → channel w from to ≡ [] = λ from to. either_none (nat_lt from n && nat_lt to n) (get_or queues (from * n + to) []) (empty (from * n + to)) in
     let each : (to : ℕ) → to < n → slice_index senders to ≡ none = λ to l. ap (λ (s : List ℕ). slice_index s to) are ∙ get_or-replicate n to none 0 l in
     record {
       few = few;

@@ -1,15 +1,16 @@
 -- What a write at one pair's place changes.
-use Rattle.std.specs.Prelude.{nat_eq, ◌&&◌, if◌then◌else◌, slice_index}
-use Rattle.std.proofs.Common.{◌≡◌, ◌≢◌, ℕ, ◌+◌, ◌-◌, ◌*◌, ◌≤◌, ◌<◌, Bool, true, false, List, [], ◌∷◌, ◌++◌, length, drop, set, get_or, refl, arith, sym, ap, subst, ◌∙◌, inl, inr}
+use Rattle.std.specs.Prelude.{nat_eq, nat_lt, ◌&&◌, if◌then◌else◌, slice_index}
+use Rattle.std.proofs.Common.{◌≡◌, ◌≢◌, ℕ, ◌+◌, ◌-◌, ◌*◌, ◌≤◌, ◌<◌, true, false, List, [], ◌∷◌, ◌++◌, length, drop, set, get_or, refl, arith, sym, ap, subst, ◌∙◌, inl, inr}
 use Rattle.std.proofs.Math.Path.{fun_ext}
 use Rattle.std.proofs.lemmas.List.{length-set, get_or-set_same, get_or-set_other, get_or_default, set-get_or}
 use Rattle.std.proofs.lemmas.Bool.Decides.{nat_tests}
 use Rattle.std.proofs.lemmas.Bool.{cases_lt, cases_eq}
-use Rattle.std.proofs.lemmas.Grind.{get_or-set_at}
 use Rattle.kt_base.specs.Sets.{has, count_of}
 use Rattle.kt_fifo.specs.declared.parcels.Parcel.{Parcel}
-use Rattle.kt_fifo.specs.Queues.{Queue, no_queue, has_parcel}
-use Rattle.kt_fifo.specs.Channels.{ChannelLists, queue, channel, spare_of, at_pair, IsWired}
+use Rattle.kt_fifo.specs.Queues.{has_parcel}
+use Rattle.kt_fifo.specs.Channels.{ChannelLists, channel, at_pair, IsWired}
+use Rattle.kt_fifo.specs.Cells.{at_number}
+use Rattle.kt_fifo.proofs.Chaining.{here}
 
 row_above : (n p from : ℕ) → p < from → p * n + n ≤ from * n
 row_above n p from h = grind arith
@@ -33,79 +34,36 @@ pub record IsPlace (w : ChannelLists) (from to i : ℕ) : Type 0 where
   pub to_in : to < w.processes
   pub place : i ≡ from * w.processes + to
 
--- another queue at one place
-abbrev pub written : ChannelLists → ℕ → Queue → ChannelLists
-written w i q = record { processes = w.processes; queues = set w.queues i q }
+-- another list at one place
+pub record IsWritten (w v : ChannelLists) (i : ℕ) (l : List Parcel) : Type 0 where
+  pub processes : v.processes ≡ w.processes
+  pub size : length v.queues ≡ length w.queues
+  pub lists : (j : ℕ) → get_or v.queues j [] ≡ at_number i l (λ j. get_or w.queues j []) j
 
 pub place_within : (w : ChannelLists) (from to i : ℕ) → IsPlace w from to i → i < length w.queues
 place_within w from to i h = omega (arith, in_square w.processes from to h.from_in h.to_in, h.square, h.place)
 
-queue_set : (n from to : ℕ) (qs : List Queue) (x : Queue) → length qs ≡ n * n → from < n → to < n → (p q : ℕ) →
-    queue (record { processes = n; queues = set qs (from * n + to) x }) p q ≡ at_pair from to x (queue (record { processes = n; queues = qs })) p q
-queue_set n from to qs x e a b p q =
+list_set : (n from to : ℕ) (f g : ℕ → List Parcel) (l : List Parcel) → from < n → to < n → ((j : ℕ) → g j ≡ at_number (from * n + to) l f j) → (p q : ℕ) →
+    (if nat_lt p n && nat_lt q n then g (p * n + q) else []) ≡ at_pair from to l (λ p q. if nat_lt p n && nat_lt q n then f (p * n + q) else []) p q
+list_set n from to f g l a b e p q =
     let same = same_place n p q from to in
     let inside = in_square n p q in
-    let at = in_square n from to a b in
-    grind (arith, nat_tests, get_or-set_other, get_or-set_at)
-
-pub queue_written : (w : ChannelLists) (from to i : ℕ) (x : Queue) → IsPlace w from to i → queue (written w i x) ≡ at_pair from to x (queue w)
-queue_written w from to i x h =
-    subst (λ (j : ℕ). queue (written w j x) ≡ at_pair from to x (queue w)) (sym h.place)
-    (fun_ext (λ p. fun_ext (λ q. queue_set w.processes from to w.queues x h.square h.from_in h.to_in p q)))
-
--- the queue that was read
-pub queue_read : (w : ChannelLists) (from to i : ℕ) (x : Queue) → IsPlace w from to i → x ≡ get_or w.queues i x → queue w from to ≡ x
-queue_read w from to i x h r =
-    let d = get_or_default w.queues i x no_queue (place_within w from to i h) in
-    let k : get_or w.queues (from * w.processes + to) no_queue ≡ x = subst (λ (j : ℕ). get_or w.queues j no_queue ≡ x) h.place (sym d ∙ sym r) in
-    let a = h.from_in in
-    let b = h.to_in in
+    let there = e (p * n + q) in
     grind (arith, nat_tests)
 
-parcels_if : (b : Bool) (x y : Queue) → (if b then x else y).parcels ≡ (if b then x.parcels else y.parcels)
-parcels_if true x y = refl
-parcels_if false x y = refl
+pub channel_written : (w v : ChannelLists) (from to i : ℕ) (l : List Parcel) → IsPlace w from to i → IsWritten w v i l → channel v ≡ at_pair from to l (channel w)
+channel_written w v from to i l h e =
+    let lists : (j : ℕ) → get_or v.queues j [] ≡ at_number (from * w.processes + to) l (λ j. get_or w.queues j []) j = λ j. e.lists j ∙ ap (λ (k : ℕ). at_number k l (λ j. get_or w.queues j []) j) h.place in
+    ap {B = ℕ → ℕ → List Parcel} (λ n p q. if nat_lt p n && nat_lt q n then get_or v.queues (p * n + q) [] else []) e.processes
+    ∙ fun_ext (λ p. fun_ext (λ q. list_set w.processes from to (λ j. get_or w.queues j []) (λ j. get_or v.queues j []) l h.from_in h.to_in lists p q))
 
-spare_if : (b : Bool) (x y : Queue) → (if b then x else y).spare ≡ (if b then x.spare else y.spare)
-spare_if true x y = refl
-spare_if false x y = refl
-
-pub channel_written : (w : ChannelLists) (from to i : ℕ) (x : Queue) → IsPlace w from to i → channel (written w i x) ≡ at_pair from to x.parcels (channel w)
-channel_written w from to i x h =
-    ap (λ (f : ℕ → ℕ → Queue). λ (p q : ℕ). (f p q).parcels) (queue_written w from to i x h)
-    ∙ fun_ext (λ p. fun_ext (λ q. parcels_if (nat_eq p from && nat_eq q to) x (queue w p q)))
-
-pub spare_written : (w : ChannelLists) (from to i : ℕ) (x : Queue) → IsPlace w from to i → spare_of (written w i x) ≡ at_pair from to x.spare (spare_of w)
-spare_written w from to i x h =
-    ap (λ (f : ℕ → ℕ → Queue). λ (p q : ℕ). (f p q).spare) (queue_written w from to i x h)
-    ∙ fun_ext (λ p. fun_ext (λ q. spare_if (nat_eq p from && nat_eq q to) x (queue w p q)))
-
--- the list of one pair becomes what f makes of it
-pub lists_changed : (w : ChannelLists) (from to i : ℕ) (x y : Queue) (f : List Parcel → List Parcel) → IsPlace w from to i → x ≡ get_or w.queues i x → y.parcels ≡ f x.parcels →
-    channel (written w i y) ≡ at_pair from to (f (channel w from to)) (channel w)
-lists_changed w from to i x y f h r e =
-    channel_written w from to i y h
-    ∙ ap (λ (l : List Parcel). at_pair from to l (channel w)) (e ∙ ap (λ (q : Queue). f q.parcels) (sym (queue_read w from to i x h r)))
-
--- the room of one pair becomes what f makes of its queue
-pub spare_changed : (w : ChannelLists) (from to i : ℕ) (x y : Queue) (f : Queue → ℕ) → IsPlace w from to i → x ≡ get_or w.queues i x → y.spare ≡ f x →
-    spare_of (written w i y) ≡ at_pair from to (f (queue w from to)) (spare_of w)
-spare_changed w from to i x y f h r e =
-    spare_written w from to i y h
-    ∙ ap (λ (n : ℕ). at_pair from to n (spare_of w)) (e ∙ ap f (sym (queue_read w from to i x h r)))
-
-pub channel_here : (w : ChannelLists) (from to i : ℕ) (y : Queue) → IsPlace w from to i → channel (written w i y) from to ≡ y.parcels
-channel_here w from to i y h = ap (λ (f : ℕ → ℕ → List Parcel). f from to) (channel_written w from to i y h) ∙ at_itself from to y.parcels (channel w from to)
-  where
-    at_itself : (p q : ℕ) (x y : List Parcel) → (if nat_eq p p && nat_eq q q then x else y) ≡ x
-    at_itself p q x y = grind (arith, nat_tests)
-
--- what goes leaves room
-pub spare_freed : (w : ChannelLists) (from to i : ℕ) (x y : Queue) → IsPlace w from to i → x ≡ get_or w.queues i x → y.spare ≡ x.spare + (length x.parcels - length y.parcels) →
-    spare_of (written w i y) ≡ at_pair from to (spare_of w from to + (length (channel w from to) - length (channel (written w i y) from to))) (spare_of w)
-spare_freed w from to i x y h r e =
-    spare_changed w from to i x y (λ q. q.spare + (length q.parcels - length (channel (written w i y) from to))) h r
-    (e ∙ ap (λ (l : List Parcel). x.spare + (length x.parcels - length l)) (sym (channel_here w from to i y h)))
+-- the list that was read
+pub channel_read : (w : ChannelLists) (from to i : ℕ) → IsPlace w from to i → channel w from to ≡ get_or w.queues i []
+channel_read w from to i h =
+    let a = h.from_in in
+    let b = h.to_in in
+    let k : get_or w.queues i [] ≡ get_or w.queues (from * w.processes + to) [] = ap (λ (j : ℕ). get_or w.queues j []) h.place in
+    grind (arith, nat_tests)
 
 -- what the code finds where a pair's list becomes l: s, the senders to the receiver, and f, the receivers
 pub record NotesSender (senders : List ℕ) (receivers from to s f : ℕ) (l : List Parcel) : Type 0 where
@@ -125,42 +83,42 @@ off_second : (p q from to : ℕ) (x y : List Parcel) → q ≢ to → (if nat_eq
 off_second p q from to x y n = grind (arith, nat_tests)
 
 -- the lists to another receiver stay
-apart_written : (w : ChannelLists) (from to i : ℕ) (y : Queue) → IsPlace w from to i → (p q : ℕ) → q ≢ to → channel (written w i y) p q ≡ channel w p q
-apart_written w from to i y h p q other =
-    ap (λ (f : ℕ → ℕ → List Parcel). f p q) (channel_written w from to i y h) ∙ off_second p q from to y.parcels (channel w p q) other
+apart_written : (w v : ChannelLists) (from to i : ℕ) (l : List Parcel) → IsPlace w from to i → IsWritten w v i l → (p q : ℕ) → q ≢ to → channel v p q ≡ channel w p q
+apart_written w v from to i l h e p q other =
+    ap (λ (f : ℕ → ℕ → List Parcel). f p q) (channel_written w v from to i l h e) ∙ off_second p q from to l (channel w p q) other
 
 -- the senders to the receiver of the pair
-here_written : (w : ChannelLists) (senders counts : List ℕ) (receivers from to i s f : ℕ) (y : Queue) → IsWired w senders counts receivers → IsPlace w from to i →
-    NotesSender senders receivers from to s f y.parcels → (p : ℕ) → has s p ≡ has_parcel (channel (written w i y) p to)
-here_written w senders counts receivers from to i s f y k h n p =
-    let e : channel (written w i y) p to ≡ at_pair from to y.parcels (channel w) p to = ap (λ (g : ℕ → ℕ → List Parcel). g p to) (channel_written w from to i y h) in
+here_written : (w v : ChannelLists) (senders counts : List ℕ) (receivers from to i s f : ℕ) (l : List Parcel) → IsWired w senders counts receivers → IsPlace w from to i → IsWritten w v i l →
+    NotesSender senders receivers from to s f l → (p : ℕ) → has s p ≡ has_parcel (channel v p to)
+here_written w v senders counts receivers from to i s f l k h u n p =
+    let e : channel v p to ≡ at_pair from to l (channel w) p to = ap (λ (g : ℕ → ℕ → List Parcel). g p to) (channel_written w v from to i l h u) in
     rw e (elim (cases_eq p from) [
-      | inl it ↦ rw it (n.here ∙ ap has_parcel (sym (at_both from to y.parcels (channel w from to))))
-      | inr other ↦ n.others p other ∙ (k.exact p to h.to_in ∙ ap has_parcel (sym (off_first p from to y.parcels (channel w p to) other)))
+      | inl it ↦ rw it (n.here ∙ ap has_parcel (sym (at_both from to l (channel w from to))))
+      | inr other ↦ n.others p other ∙ (k.exact p to h.to_in ∙ ap has_parcel (sym (off_first p from to l (channel w p to) other)))
     ])
 
 no_parcel : (l : List Parcel) → has_parcel l ≡ false → l ≡ []
 no_parcel [] e = refl
 no_parcel (x ∷ xs) e = cc
 
-noted_written : (w : ChannelLists) (senders counts new : List ℕ) (receivers from to i s f : ℕ) (y : Queue) → IsWired w senders counts receivers → IsPlace w from to i →
-    NotesSender senders receivers from to s f y.parcels → slice_index new to ≡ count_of s → ((q : ℕ) → q ≢ to → slice_index new q ≡ slice_index counts q) → IsWired (written w i y) (set senders to s) new f
-noted_written w senders counts new receivers from to i s f y k h n counted same_counts =
+noted_written : (w v : ChannelLists) (senders counts new : List ℕ) (receivers from to i s f : ℕ) (l : List Parcel) → IsWired w senders counts receivers → IsPlace w from to i → IsWritten w v i l →
+    NotesSender senders receivers from to s f l → slice_index new to ≡ count_of s → ((q : ℕ) → q ≢ to → slice_index new q ≡ slice_index counts q) → IsWired v (set senders to s) new f
+noted_written w v senders counts new receivers from to i s f l k h u n counted same_counts =
     let long : to < length senders = omega (arith, h.to_in, k.one_each) in
-    let here = here_written w senders counts receivers from to i s f y k h n in
-    let apart = apart_written w from to i y h in
+    let here = here_written w v senders counts receivers from to i s f l k h u n in
+    let apart = apart_written w v from to i l h u in
     record {
-      few = k.few;
-      square = length-set w.queues i y ∙ k.square;
-      one_each = length-set senders to s ∙ k.one_each;
+      few = subst (λ (n : ℕ). n ≤ 64) (sym u.processes) k.few;
+      square = u.size ∙ (k.square ∙ ap (λ (n : ℕ). n * n) (sym u.processes));
+      one_each = length-set senders to s ∙ (k.one_each ∙ sym u.processes);
       exact = λ p q b. elim (cases_eq q to) [
         | inl same ↦ rw (same, get_or-set_same senders to s 0 long) (here p)
-        | inr other ↦ rw (get_or-set_other senders to q s 0 other) (k.exact p q b ∙ ap has_parcel (sym (apart p q other)))
+        | inr other ↦ rw (get_or-set_other senders to q s 0 other) (k.exact p q (let n = u.processes in omega (arith, b, n)) ∙ ap has_parcel (sym (apart p q other)))
       ];
       some = λ q e. elim (cases_eq q to) [
         | inl same ↦
             let r = n.some (ap (has f) (sym same) ∙ e) in
-            (r.0, subst (λ (t : ℕ). has_parcel (channel (written w i y) r.0 t) ≡ true) (sym same) (sym (here r.0) ∙ r.1))
+            (r.0, subst (λ (t : ℕ). has_parcel (channel v r.0 t) ≡ true) (sym same) (sym (here r.0) ∙ r.1))
         | inr other ↦
             let r = k.some q (sym (n.apart q other) ∙ e) in
             (r.0, ap has_parcel (apart r.0 q other) ∙ r.1)
@@ -171,20 +129,20 @@ noted_written w senders counts new receivers from to i s f y k h n counted same_
       ];
       counted = λ q b. elim (cases_eq q to) [
         | inl same ↦ rw (same, get_or-set_same senders to s 0 long) counted
-        | inr other ↦ rw (get_or-set_other senders to q s 0 other) (same_counts q other ∙ k.counted q b)
+        | inr other ↦ rw (get_or-set_other senders to q s 0 other) (same_counts q other ∙ k.counted q (let n = u.processes in omega (arith, b, n)))
       ];
-      past = λ q b. let low = h.to_in in same_counts q (let d : q ≢ to = omega (arith, b, low) in d) ∙ k.past q b;
+      past = λ q b. let low = h.to_in in let n = u.processes in same_counts q (let d : q ≢ to = omega (arith, b, low, n) in d) ∙ k.past q (omega (arith, b, n));
     }
 
 -- a write at one place, with the senders to its receiver and the receivers
-pub wired_written : (w : ChannelLists) (senders counts new : List ℕ) (receivers from to i r s t f : ℕ) (y : Queue) → IsWired w senders counts receivers → IsPlace w from to i →
-    r ≡ to → t ≡ get_or senders r t → has s from ≡ has_parcel y.parcels → ((p : ℕ) → p ≢ from → has s p ≡ has t p) →
+pub wired_written : (w v : ChannelLists) (senders counts new : List ℕ) (receivers from to i r s t f : ℕ) (l : List Parcel) → IsWired w senders counts receivers → IsPlace w from to i → IsWritten w v i l →
+    r ≡ to → t ≡ get_or senders r t → has s from ≡ has_parcel l → ((p : ℕ) → p ≢ from → has s p ≡ has t p) →
     (has f to ≡ true → (p : ℕ) × (has s p ≡ true)) → (has f to ≡ false → (p : ℕ) → has s p ≡ false) → ((q : ℕ) → q ≢ to → has f q ≡ has receivers q) →
-    slice_index new to ≡ count_of s → ((q : ℕ) → q ≢ to → slice_index new q ≡ slice_index counts q) → IsWired (written w i y) (set senders r s) new f
-wired_written w senders counts new receivers from to i r s t f y k h it read here others some none apart counted same_counts =
+    slice_index new to ≡ count_of s → ((q : ℕ) → q ≢ to → slice_index new q ≡ slice_index counts q) → IsWired v (set senders r s) new f
+wired_written w v senders counts new receivers from to i r s t f l k h u it read here others some none apart counted same_counts =
     let long : to < length senders = omega (arith, h.to_in, k.one_each) in
     let old : t ≡ slice_index senders to = subst (λ (j : ℕ). t ≡ get_or senders j t) it read ∙ get_or_default senders to t 0 long in
-    subst (λ (j : ℕ). IsWired (written w i y) (set senders j s) new f) (sym it) (noted_written w senders counts new receivers from to i s f y k h (record {
+    subst (λ (j : ℕ). IsWired v (set senders j s) new f) (sym it) (noted_written w v senders counts new receivers from to i s f l k h u (record {
       here = here;
       others = λ p n. others p n ∙ ap (λ (x : ℕ). has x p) old;
       some = some;
@@ -193,13 +151,12 @@ wired_written w senders counts new receivers from to i r s t f y k h it read her
     }) counted same_counts)
 
 -- where a list has a parcel still, no sender goes
-pub wired_left : (w : ChannelLists) (senders counts : List ℕ) (receivers from to i : ℕ) (x y : Queue) → IsWired w senders counts receivers → IsPlace w from to i →
-    x ≡ get_or w.queues i x → y.parcels ≡ drop 1 x.parcels → has_parcel y.parcels ≡ true → IsWired (written w i y) senders counts receivers
-wired_left w senders counts receivers from to i x y k h read rest still =
-    let before = had_parcel x.parcels (ap has_parcel (sym rest) ∙ still) in
-    let here : has (slice_index senders to) from ≡ true = k.exact from to h.to_in ∙ (ap (λ (q : Queue). has_parcel q.parcels) (queue_read w from to i x h read) ∙ before) in
-    subst (λ (l : List ℕ). IsWired (written w i y) l counts receivers) (set-get_or senders to 0)
-    (noted_written w senders counts counts receivers from to i (slice_index senders to) receivers y k h (record {
+pub wired_left : (w v : ChannelLists) (senders counts : List ℕ) (receivers from to i : ℕ) → IsWired w senders counts receivers → IsPlace w from to i →
+    IsWritten w v i (drop 1 (get_or w.queues i [])) → has_parcel (drop 1 (get_or w.queues i [])) ≡ true → IsWired v senders counts receivers
+wired_left w v senders counts receivers from to i k h u still =
+    let here : has (slice_index senders to) from ≡ true = k.exact from to h.to_in ∙ (ap has_parcel (channel_read w from to i h) ∙ had_parcel (get_or w.queues i []) still) in
+    subst (λ (t : List ℕ). IsWired v t counts receivers) (set-get_or senders to 0)
+    (noted_written w v senders counts counts receivers from to i (slice_index senders to) receivers (drop 1 (get_or w.queues i [])) k h u (record {
       here = here ∙ sym still;
       others = λ p n. refl;
       some = λ e. (from, here);
@@ -207,7 +164,7 @@ wired_left w senders counts receivers from to i x y k h read rest still =
       apart = λ q n. refl;
     }) (k.counted to h.to_in) (λ q n. refl))
   where
-    had_parcel : (l : List Parcel) → has_parcel (drop 1 l) ≡ true → has_parcel l ≡ true
+    had_parcel : (t : List Parcel) → has_parcel (drop 1 t) ≡ true → has_parcel t ≡ true
     had_parcel [] e = e
     had_parcel (x ∷ xs) e = refl
 
@@ -227,68 +184,43 @@ pub has_parcel-append : (new old : List Parcel) (x : Parcel) → new ≡ old ++ 
 has_parcel-append new [] x e = ap has_parcel e
 has_parcel-append new (y ∷ ys) x e = ap has_parcel e
 
--- the room of one pair is whatever it is now
-pub spare_here : (w : ChannelLists) (from to i : ℕ) (y : Queue) → IsPlace w from to i → spare_of (written w i y) ≡ at_pair from to (spare_of (written w i y) from to) (spare_of w)
-spare_here w from to i y h =
-    let e = spare_written w from to i y h in
-    let k : spare_of (written w i y) from to ≡ y.spare = ap (λ (f : ℕ → ℕ → ℕ). f from to) e ∙ at_itself from to y.spare (spare_of w from to) in
-    e ∙ ap (λ (n : ℕ). at_pair from to n (spare_of w)) (sym k)
-  where
-    at_itself : (p q x y : ℕ) → (if nat_eq p p && nat_eq q q then x else y) ≡ x
-    at_itself p q x y = grind (arith, nat_tests)
+-- the list of one pair becomes what f makes of it
+pub lists_changed : (w v : ChannelLists) (from to i : ℕ) (f : List Parcel → List Parcel) → IsPlace w from to i → IsWritten w v i (f (get_or w.queues i [])) → channel v ≡ at_pair from to (f (channel w from to)) (channel w)
+lists_changed w v from to i f h u =
+    channel_written w v from to i (f (get_or w.queues i [])) h u
+    ∙ ap (λ (t : List Parcel). at_pair from to (f t) (channel w)) (sym (channel_read w from to i h))
 
--- where the room of one pair alone changed, and grew, no room shrank
-pub grows_at : (f g : ℕ → ℕ → ℕ) (from to : ℕ) → g ≡ at_pair from to (g from to) f → f from to ≤ g from to → (p q : ℕ) → f p q ≤ g p q
-grows_at f g from to e le p q =
-    let k : g p q ≡ at_pair from to (g from to) f p q = ap (λ (h : ℕ → ℕ → ℕ). h p q) e in
-    elim (cases_eq p from) [
-      | inl a ↦ elim (cases_eq q to) [
-        | inl b ↦ rw (a, b) le
-        | inr b ↦ grind (arith, nat_tests)
-      ]
-      | inr a ↦ grind (arith, nat_tests)
-    ]
-
--- and that of another pair stayed
-pub others_at : (f g : ℕ → ℕ → ℕ) (from to : ℕ) → g ≡ at_pair from to (g from to) f → (p q : ℕ) → (p ≡ from → q ≡ to → ⊥) → g p q ≡ f p q
-others_at f g from to e p q n =
-    let k : g p q ≡ at_pair from to (g from to) f p q = ap (λ (h : ℕ → ℕ → ℕ). h p q) e in grind (arith, nat_tests)
-
--- the count of the senders that were there
-pub count_before : (w : ChannelLists) (senders counts : List ℕ) (receivers from to i r t : ℕ) → IsWired w senders counts receivers → IsPlace w from to i → r ≡ to → t ≡ get_or senders r t → slice_index counts to ≡ count_of t
-count_before w senders counts receivers from to i r t k h it read =
-    let long : to < length senders = omega (arith, h.to_in, k.one_each) in
-    let old : t ≡ slice_index senders to = subst (λ (j : ℕ). t ≡ get_or senders j t) it read ∙ get_or_default senders to t 0 long in
-    k.counted to h.to_in ∙ ap count_of (sym old)
+pub channel_here : (w v : ChannelLists) (from to i : ℕ) (l : List Parcel) → IsPlace w from to i → IsWritten w v i l → channel v from to ≡ l
+channel_here w v from to i l h u = ap (λ (f : ℕ → ℕ → List Parcel). f from to) (channel_written w v from to i l h u) ∙ at_both from to l (channel w from to)
 
 -- room for more changes no list
-at_itself : (p from q to : ℕ) (f : ℕ → ℕ → List Parcel) → at_pair from to (f from to) f p q ≡ f p q
-at_itself p from q to f = elim (cases_eq p from) [
-  | inl a ↦ elim (cases_eq q to) [
-    | inl b ↦ rw (a, b) (at_both from to (f from to) (f from to))
-    | inr b ↦ off_second p q from to (f from to) (f p q) b
-  ]
-  | inr a ↦ off_one p from q to (f from to) (f p q) a
-]
-  where
-    off_one : (p from q to : ℕ) (x y : List Parcel) → p ≢ from → (if nat_eq p from && nat_eq q to then x else y) ≡ y
-    off_one p from q to x y n = grind (arith, nat_tests)
+pub channel_kept : (w v : ChannelLists) → v.processes ≡ w.processes → ((j : ℕ) → get_or v.queues j [] ≡ get_or w.queues j []) → channel v ≡ channel w
+channel_kept w v n same =
+    ap {B = ℕ → ℕ → List Parcel} (λ m p q. if nat_lt p m && nat_lt q m then get_or v.queues (p * m + q) [] else []) n
+    ∙ fun_ext (λ p. fun_ext (λ q. ap (λ (t : List Parcel). if nat_lt p w.processes && nat_lt q w.processes then t else []) (same (p * w.processes + q))))
 
-pub lists_kept : (w : ChannelLists) (from to i : ℕ) (x y : Queue) → IsPlace w from to i → x ≡ get_or w.queues i x → y.parcels ≡ x.parcels → channel (written w i y) ≡ channel w
-lists_kept w from to i x y h r e =
-    lists_changed w from to i x y (λ l. l) h r e
-    ∙ fun_ext (λ p. fun_ext (λ q. at_itself p from q to (channel w)))
-
-pub wired_kept : (w : ChannelLists) (senders counts : List ℕ) (receivers i : ℕ) (y : Queue) → IsWired w senders counts receivers → channel (written w i y) ≡ channel w → IsWired (written w i y) senders counts receivers
-wired_kept w senders counts receivers i y k e =
+pub wired_kept : (w v : ChannelLists) (senders counts : List ℕ) (receivers : ℕ) → IsWired w senders counts receivers → v.processes ≡ w.processes → length v.queues ≡ length w.queues → channel v ≡ channel w → IsWired v senders counts receivers
+wired_kept w v senders counts receivers k n size e =
     let at = λ (p q : ℕ). ap (λ (f : ℕ → ℕ → List Parcel). f p q) e in
     record {
-      few = k.few;
-      square = length-set w.queues i y ∙ k.square;
-      one_each = k.one_each;
-      exact = λ p q b. k.exact p q b ∙ ap has_parcel (sym (at p q));
+      few = subst (λ (m : ℕ). m ≤ 64) (sym n) k.few;
+      square = size ∙ (k.square ∙ ap (λ (m : ℕ). m * m) (sym n));
+      one_each = k.one_each ∙ sym n;
+      exact = λ p q b. k.exact p q (omega (arith, b, n)) ∙ ap has_parcel (sym (at p q));
       some = λ q m. let r = k.some q m in (r.0, ap has_parcel (at r.0 q) ∙ r.1);
       none = λ p q m. at p q ∙ k.none p q m;
-      counted = k.counted;
-      past = k.past;
+      counted = λ q b. k.counted q (omega (arith, b, n));
+      past = λ q b. k.past q (omega (arith, b, n));
     }
+
+-- the list that was written
+pub list_here : (w v : ChannelLists) (i : ℕ) (l : List Parcel) → IsWritten w v i l → get_or v.queues i [] ≡ l
+list_here w v i l u = u.lists i ∙ here i l (λ j. get_or w.queues j [])
+
+-- what goes leaves room
+pub spare_freed : (w v : ChannelLists) (from to i s : ℕ) (l : List Parcel) → IsPlace w from to i → IsWritten w v i l → s ≡ w.spare + (length (get_or w.queues i []) - length (get_or v.queues i [])) →
+    s ≡ w.spare + (length (channel w from to) - length (channel v from to))
+spare_freed w v from to i s l h u e =
+    let old = ap length (channel_read w from to i h) in
+    let new = ap length (channel_here w v from to i l h u ∙ sym (list_here w v i l u)) in
+    omega (arith, e, old, new)

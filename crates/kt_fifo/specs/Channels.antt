@@ -1,25 +1,22 @@
--- One list of parcels, with room, for each ordered pair of processes.
+-- One list of parcels for each ordered pair of processes.
 use Rattle.std.specs.Prelude.{◌≡◌, ℕ, ◌+◌, ◌*◌, ◌≤◌, ◌<◌, ◌==◌, ◌&&◌, nat_lt, if◌then◌else◌, true, false, List, [], length, slice_index_or, slice_index}
 use Rattle.kt_base.specs.Sets.{has, count_of}
 use Rattle.kt_fifo.specs.declared.parcels.Parcel.{Parcel}
-use Rattle.kt_fifo.specs.Queues.{Queue, no_queue, has_parcel}
+use Rattle.kt_fifo.specs.Queues.{has_parcel}
 
--- how many processes there are, and a queue for each ordered pair
+-- how many processes there are, the parcels of each ordered pair, and how many more there is room for in all
 pub record ChannelLists : Type 0 where
   pub processes : ℕ
-  pub queues : List Queue
-
--- the queue from one process to another
-abbrev pub queue : ChannelLists → ℕ → ℕ → Queue
-queue w from to = if nat_lt from w.processes && nat_lt to w.processes then slice_index_or w.queues (from * w.processes + to) no_queue else no_queue
+  pub queues : List (List Parcel)
+  pub spare : ℕ
 
 -- the parcels in transit from one process to another, the oldest first
 abbrev pub channel : ChannelLists → ℕ → ℕ → List Parcel
-channel w from to = (queue w from to).parcels
+channel w from to = if nat_lt from w.processes && nat_lt to w.processes then slice_index_or w.queues (from * w.processes + to) [] else []
 
--- how many parcels more there is room for
-abbrev pub spare_of : ChannelLists → ℕ → ℕ → ℕ
-spare_of w from to = (queue w from to).spare
+-- how many parcels more there is room for, whatever pair they come to
+abbrev pub spare_of : ChannelLists → ℕ
+spare_of w = w.spare
 
 -- f with another value at one pair
 abbrev pub at_pair : {X : Type 0} → ℕ → ℕ → X → (ℕ → ℕ → X) → ℕ → ℕ → X
@@ -29,11 +26,7 @@ at_pair from to x f p q = if p == from && q == to then x else f p q
 abbrev pub nothing : ℕ → ℕ → List Parcel
 nothing from to = []
 
--- a pair whose sender is this one and whose receiver is in the set
-abbrev pub IsTarget : ℕ → ℕ → ℕ → ℕ → Type 0
-IsTarget from targets p q = (p ≡ from) × (has targets q ≡ true)
-
--- a queue for each pair; for each receiver the set of those whose list to it is not empty, and how many they are; and the
+-- a list for each pair; for each receiver the set of those whose list to it is not empty, and how many they are; and the
 -- set of those to whom some list is not empty
 pub record IsWired (w : ChannelLists) (senders counts : List ℕ) (receivers : ℕ) : Type 0 where
   pub few : w.processes ≤ 64

@@ -1,3 +1,4 @@
+pub mod Cells
 pub mod Channels
 pub mod Counts
 pub mod Parcels

@@ -4,12 +4,12 @@ ghost use Rattle.std.specs.Prelude.{◌≡◌, ◌≢◌, ℕ, ◌<◌, ◌≤�
 ghost use Rattle.std.specs.Option.{option_copied};
 ghost use Rattle.kt_base.specs.Sets.{has, count_of};
 ghost use Rattle.kt_fifo.specs.Queues.{has_parcel};
-ghost use Rattle.kt_fifo.specs.Channels.{channel, spare_of, at_pair, nothing, IsTarget};
+ghost use Rattle.kt_fifo.specs.Channels.{channel, spare_of, at_pair, nothing};
 ghost use Rattle.kt_fifo.specs.Counts.{count_first, waits, busy_pairs, IsPairAt};
 ghost use Rattle.kt_fifo.specs.Parcels.{without_above};
 
+use crate::cells::Cells;
 use crate::counts::{Counts, member_at};
-use crate::fifo::Fifo;
 use crate::parcels::Parcel;
 use kt_base::{Label, Memory, ProcNo, ProcSet};
 use std::alloc::Global;
@@ -17,11 +17,11 @@ use std::marker::Model;
 
 /// One list of parcels for each ordered pair of processes: first in, first out, and nothing is lost.
 ///
-/// Beside each list stands how many more parcels there is room for, its spare room.
+/// There is room for so many parcels more, the spare room, whichever lists they come to.
 #[derive(Drop)]
 pub struct Channels {
     processes: usize,
-    fifos: Vec<Fifo>,
+    cells: Cells,
     senders: Vec<ProcSet>,
     counts: Counts,
     receivers: ProcSet,
@@ -32,48 +32,50 @@ impl Model for Channels {
 
     ghost Value = { ChannelLists };
 
-    ghost view = { λ c. record { processes = c.processes; queues = c.fifos.items } };
+    ghost view = { λ c. record { processes = c.processes; queues = c.cells.queues; spare = c.cells.spare } };
 
-    ghost invariant = { λ c. IsWired (record { processes = c.processes; queues = c.fifos.items }) c.senders.items c.counts c.receivers };
+    ghost invariant = { λ c. IsWired (record { processes = c.processes; queues = c.cells.queues; spare = c.cells.spare }) c.senders.items c.counts c.receivers };
 }
 
-/// A set, once it is known whether one process is in it.
-fn noted(set: ProcSet, p: ProcNo, is_member: bool) -> ProcSet
-    ensures here { has result p ≡ is_member }
-    ensures others { (q : ℕ) → q ≢ p → has result q ≡ has set q }
-{
-    if is_member {
-        set.with(p)
-    } else {
-        set.without(p)
-    }
-}
-
-/// Notes whether a process is among the receivers, once the senders to it are known.
-fn note_receiver(receivers: &mut ProcSet, to: ProcNo, senders: ProcSet)
-    ensures some { has receivers.new to ≡ true → (from : ℕ) × (has senders from ≡ true) }
-    ensures none { has receivers.new to ≡ false → (from : ℕ) → has senders from ≡ false }
-    ensures others { (q : ℕ) → q ≢ to → has receivers.new q ≡ has receivers.old q }
-{
-    *receivers = noted(*receivers, to, senders.first().is_some());
-}
-
-/// Counts the senders to a process anew, where one of them came or went.
+/// Notes whether a process has a parcel in transit to another one; it writes nothing where that was known.
 #[inline(always)]
-fn note_count(counts: &mut Counts, to: ProcNo, from: ProcNo, before: ProcSet, senders: ProcSet)
+fn note_sender(
+    senders: &mut ProcSet,
+    counts: &mut Counts,
+    receivers: &mut ProcSet,
+    from: ProcNo,
+    to: ProcNo,
+    is_sender: bool,
+)
     requires sender { from < 64 }
-    requires counted { slice_index counts.old to ≡ count_of before }
-    requires others { (q : ℕ) → q ≢ from → has senders q ≡ has before q }
-    ensures counted { slice_index counts.new to ≡ count_of senders }
-    ensures others { (q : ℕ) → q ≢ to → slice_index counts.new q ≡ slice_index counts.old q }
+    requires counted { slice_index counts.old to ≡ count_of senders.old }
+    requires some { has receivers.old to ≡ true → (p : ℕ) × (has senders.old p ≡ true) }
+    requires none { has receivers.old to ≡ false → (p : ℕ) → has senders.old p ≡ false }
+
+    // Of the senders to the receiver only this one may have come or gone.
+    ensures here { has senders.new from ≡ is_sender }
+    ensures others { (p : ℕ) → p ≢ from → has senders.new p ≡ has senders.old p }
+    ensures counted { slice_index counts.new to ≡ count_of senders.new }
+    ensures other_counts { (q : ℕ) → q ≢ to → slice_index counts.new q ≡ slice_index counts.old q }
+
+    // The process is a receiver where it has a sender.
+    ensures some { has receivers.new to ≡ true → (p : ℕ) × (has senders.new p ≡ true) }
+    ensures none { has receivers.new to ≡ false → (p : ℕ) → has senders.new p ≡ false }
+    ensures other_receivers { (q : ℕ) → q ≢ to → has receivers.new q ≡ has receivers.old q }
 {
-    if senders.has(from) == before.has(from) {
+    if senders.has(from) == is_sender {
         return;
     }
-    if senders.has(from) {
+    if is_sender {
+        *senders = senders.with(from);
         counts.add(to);
-    } else {
-        counts.remove(to);
+        *receivers = receivers.with(to);
+        return;
+    }
+    *senders = senders.without(from);
+    counts.remove(to);
+    if senders.first().is_none() {
+        *receivers = receivers.without(to);
     }
 }
 
@@ -85,14 +87,11 @@ impl Channels {
         ensures lists { IfOk result (λ channels. channel channels ≡ nothing) }
     {
         let pairs = processes * processes;
-        let mut fifos = Vec::with_capacity(alloc, pairs)?;
-        for _pair in 0..pairs {
-            fifos.push(Fifo::new(alloc))?;
-        }
+        let cells = Cells::new(alloc, pairs)?;
         let senders = vec![in alloc; ProcSet::empty(); processes]?;
         Ok(Channels {
             processes,
-            fifos,
+            cells,
             senders,
             counts: Counts::new(),
             receivers: ProcSet::empty(),
@@ -123,16 +122,15 @@ impl Channels {
         requires to { to < self.now.processes }
         ensures { result ≡ length (channel self.now from to) }
     {
-        self.fifos[self.place(from, to)].len()
+        self.cells.len(self.place(from, to))
     }
 
-    /// How many parcels more there is room for, from one process to another.
-    pub fn spare(&self, from: ProcNo, to: ProcNo) -> usize
-        requires from { from < self.now.processes }
-        requires to { to < self.now.processes }
-        ensures { result ≡ spare_of self.now from to }
+    /// How many parcels more there is room for, whichever lists they come to.
+    #[inline(always)]
+    pub fn spare(&self) -> usize
+        ensures { result ≡ spare_of self.now }
     {
-        self.fifos[self.place(from, to)].spare()
+        self.cells.spare()
     }
 
     /// The processes that have a parcel in transit to this one.
@@ -186,7 +184,7 @@ impl Channels {
         requires to { to < self.now.processes }
         ensures { option_copied result ≡ slice_get (channel self.now from to) 0 }
     {
-        self.fifos[self.place(from, to)].front()
+        self.cells.front(self.place(from, to))
     }
 
     /// The parcel at a place of those from one process to another, the oldest at 0.
@@ -195,48 +193,20 @@ impl Channels {
         requires to { to < self.now.processes }
         ensures { option_copied result ≡ slice_get (channel self.now from to) place }
     {
-        self.fifos[self.place(from, to)].get(place)
+        self.cells.get(self.place(from, to), place)
     }
 
-    /// Makes room for that many parcels more, from one process to another.
+    /// Makes room for that many parcels more, whichever lists they come to.
     #[inline(always)]
-    pub fn reserve_many(&mut self, from: ProcNo, to: ProcNo, count: usize) -> Result<(), Memory>
-        requires from { from < self.old.processes }
-        requires to { to < self.old.processes }
+    pub fn reserve(&mut self, count: usize) -> Result<(), Memory>
         ensures processes { self.new.processes ≡ self.old.processes }
         ensures lists { channel self.new ≡ channel self.old }
-
-        // The spare room of the pair never shrinks, and that of every other pair stays.
-        ensures spare { spare_of self.new ≡ at_pair from to (spare_of self.new from to) (spare_of self.old) }
-        ensures grows { spare_of self.old from to ≤ spare_of self.new from to }
-        ensures ok { OnOk result (count ≤ spare_of self.new from to) }
-        ensures full { OnErr result (spare_of self.old from to < count) }
+        ensures grows { spare_of self.old ≤ spare_of self.new }
+        ensures ok { OnOk result (count ≤ spare_of self.new) }
+        ensures full { OnErr result (spare_of self.old < count) }
+        ensures kept { OnErr result (spare_of self.new ≡ spare_of self.old) }
     {
-        let place = self.place(from, to);
-        let fifo = &mut self.fifos[place];
-        fifo.reserve(count)
-    }
-
-    /// Makes room for one parcel more, from a process to each of a set of processes.
-    pub fn reserve(&mut self, from: ProcNo, targets: ProcSet) -> Result<(), Memory>
-        requires from { from < self.old.processes }
-        requires targets { (to : ℕ) → has targets to ≡ true → to < self.old.processes }
-        ensures processes { self.new.processes ≡ self.old.processes }
-        ensures lists { channel self.new ≡ channel self.old }
-
-        // No spare room shrinks, and that of every other pair stays.
-        ensures grows { (p q : ℕ) → spare_of self.old p q ≤ spare_of self.new p q }
-        ensures others { (p q : ℕ) → ¬ IsTarget from targets p q → spare_of self.new p q ≡ spare_of self.old p q }
-        ensures ok { OnOk result ((to : ℕ) → has targets to ≡ true → 1 ≤ spare_of self.new from to) }
-        ensures full { OnErr result ((to : ℕ) × (has targets to ≡ true) × (spare_of self.old from to ≡ 0)) }
-    {
-        for number in 0..self.processes() as u8 {
-            let to = ProcNo::new(number).unwrap();
-            if targets.has(to) {
-                self.reserve_many(from, to, 1)?;
-            }
-        }
-        Ok(())
+        self.cells.reserve(count)
     }
 
     /// Adds a parcel at the end of a list, in room made beforehand.
@@ -244,20 +214,22 @@ impl Channels {
     pub fn push_reserved(&mut self, from: ProcNo, to: ProcNo, parcel: Parcel)
         requires from { from < self.old.processes }
         requires to { to < self.old.processes }
-        requires room { 0 < spare_of self.old from to }
+        requires room { 0 < spare_of self.old }
         ensures processes { self.new.processes ≡ self.old.processes }
         ensures lists { channel self.new ≡ at_pair from to (channel self.old from to ++ parcel ∷ []) (channel self.old) }
-        ensures spare { spare_of self.new ≡ at_pair from to (spare_of self.old from to - 1) (spare_of self.old) }
+        ensures spare { spare_of self.new ≡ spare_of self.old - 1 }
     {
         let place = self.place(from, to);
-        let fifo = &mut self.fifos[place];
-        fifo.push_reserved(parcel);
-        let receiver = to.get() as usize;
-        let before = self.senders[receiver];
-        let senders = noted(before, from, true);
-        self.senders[receiver] = senders;
-        note_count(&mut self.counts, to, from, before, senders);
-        note_receiver(&mut self.receivers, to, senders);
+        self.cells.push_reserved(place, parcel);
+        let senders = &mut self.senders[to.index()];
+        note_sender(
+            senders,
+            &mut self.counts,
+            &mut self.receivers,
+            from,
+            to,
+            true,
+        );
     }
 
     /// Takes the oldest parcel from one process to another; its room is spare room again.
@@ -268,21 +240,23 @@ impl Channels {
         ensures processes { self.new.processes ≡ self.old.processes }
         ensures front { result ≡ slice_get (channel self.old from to) 0 }
         ensures lists { channel self.new ≡ at_pair from to (drop 1 (channel self.old from to)) (channel self.old) }
-        ensures spare { spare_of self.new ≡ at_pair from to (spare_of self.old from to + (length (channel self.old from to) - length (channel self.new from to))) (spare_of self.old) }
-        ensures grows { (p q : ℕ) → spare_of self.old p q ≤ spare_of self.new p q }
+        ensures spare { spare_of self.new ≡ spare_of self.old + (length (channel self.old from to) - length (channel self.new from to)) }
+        ensures grows { spare_of self.old ≤ spare_of self.new }
     {
         let place = self.place(from, to);
-        let fifo = &mut self.fifos[place];
-        let parcel = fifo.pop();
-        if fifo.has_parcel() {
+        let parcel = self.cells.pop(place);
+        if self.cells.has_parcel(place) {
             return parcel;
         }
-        let receiver = to.get() as usize;
-        let before = self.senders[receiver];
-        let senders = before.without(from);
-        self.senders[receiver] = senders;
-        note_count(&mut self.counts, to, from, before, senders);
-        note_receiver(&mut self.receivers, to, senders);
+        let senders = &mut self.senders[to.index()];
+        note_sender(
+            senders,
+            &mut self.counts,
+            &mut self.receivers,
+            from,
+            to,
+            false,
+        );
         parcel
     }
 
@@ -292,19 +266,21 @@ impl Channels {
         requires to { to < self.old.processes }
         ensures processes { self.new.processes ≡ self.old.processes }
         ensures lists { channel self.new ≡ at_pair from to (without_above label (channel self.old from to)) (channel self.old) }
-        ensures spare { spare_of self.new ≡ at_pair from to (spare_of self.old from to + (length (channel self.old from to) - length (channel self.new from to))) (spare_of self.old) }
-        ensures grows { (p q : ℕ) → spare_of self.old p q ≤ spare_of self.new p q }
+        ensures spare { spare_of self.new ≡ spare_of self.old + (length (channel self.old from to) - length (channel self.new from to)) }
+        ensures grows { spare_of self.old ≤ spare_of self.new }
     {
         let place = self.place(from, to);
-        let fifo = &mut self.fifos[place];
-        fifo.drop_above(label);
-        let waits = fifo.has_parcel();
-        let receiver = to.get() as usize;
-        let before = self.senders[receiver];
-        let senders = noted(before, from, waits);
-        self.senders[receiver] = senders;
-        note_count(&mut self.counts, to, from, before, senders);
-        note_receiver(&mut self.receivers, to, senders);
+        self.cells.drop_above(place, label);
+        let waits = self.cells.has_parcel(place);
+        let senders = &mut self.senders[to.index()];
+        note_sender(
+            senders,
+            &mut self.counts,
+            &mut self.receivers,
+            from,
+            to,
+            waits,
+        );
     }
 
     /// Sets the other's list of a pair before this one's, in room made beforehand, and leaves the other's empty.
@@ -313,31 +289,37 @@ impl Channels {
         requires to { to < self.old.processes }
         requires from_there { from < other.old.processes }
         requires to_there { to < other.old.processes }
-        requires room { length (channel other.old from to) ≤ spare_of self.old from to }
+        requires room { length (channel other.old from to) ≤ spare_of self.old }
         ensures processes { self.new.processes ≡ self.old.processes }
         ensures lists { channel self.new ≡ at_pair from to (channel other.old from to ++ channel self.old from to) (channel self.old) }
-        ensures spare { spare_of self.new ≡ at_pair from to (spare_of self.old from to - length (channel other.old from to)) (spare_of self.old) }
+        ensures spare { spare_of self.new ≡ spare_of self.old - length (channel other.old from to) }
 
         // The same of the other.
         ensures other_processes { other.new.processes ≡ other.old.processes }
         ensures other_lists { channel other.new ≡ at_pair from to [] (channel other.old) }
-        ensures other_spare { spare_of other.new ≡ at_pair from to (spare_of other.old from to + length (channel other.old from to)) (spare_of other.old) }
+        ensures other_spare { spare_of other.new ≡ spare_of other.old + length (channel other.old from to) }
     {
         let place = self.place(from, to);
         let other_place = other.place(from, to);
-        let fifo = &mut self.fifos[place];
-        fifo.put_before(&mut other.fifos[other_place]);
-        let waits = fifo.has_parcel();
-        let receiver = to.get() as usize;
-        let before = self.senders[receiver];
-        let senders = noted(before, from, waits);
-        self.senders[receiver] = senders;
-        note_count(&mut self.counts, to, from, before, senders);
-        note_receiver(&mut self.receivers, to, senders);
-        let other_before = other.senders[receiver];
-        let other_senders = noted(other_before, from, false);
-        other.senders[receiver] = other_senders;
-        note_count(&mut other.counts, to, from, other_before, other_senders);
-        note_receiver(&mut other.receivers, to, other_senders);
+        self.cells.put_before(place, &mut other.cells, other_place);
+        let waits = self.cells.has_parcel(place);
+        let senders = &mut self.senders[to.index()];
+        note_sender(
+            senders,
+            &mut self.counts,
+            &mut self.receivers,
+            from,
+            to,
+            waits,
+        );
+        let other_senders = &mut other.senders[to.index()];
+        note_sender(
+            other_senders,
+            &mut other.counts,
+            &mut other.receivers,
+            from,
+            to,
+            false,
+        );
     }
 }

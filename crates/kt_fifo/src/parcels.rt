@@ -43,4 +43,12 @@ impl Parcel {
             Parcel::Ask { .. } | Parcel::Reply { .. } | Parcel::Decide { .. } => true,
         }
     }
+
+    /// A parcel for a cell that has none.
+    pub(crate) fn no_parcel() -> Parcel {
+        Parcel::Reply {
+            inst: InstNo::new(1).unwrap(),
+            willing: false,
+        }
+    }
 }

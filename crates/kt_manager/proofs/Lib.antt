@@ -12,3 +12,5 @@ pub mod Hearing
 pub mod Replying
 pub mod Messages
 pub mod Looking
+pub mod Within
+pub mod Rest

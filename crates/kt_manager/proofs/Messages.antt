@@ -6,6 +6,7 @@ use Rattle.kt_meaning.specs.Past.{at_one}
 use Rattle.kt_plan.specs.declared.steps.Act.TheVariants.{Drop}
 use Rattle.kt_tables.specs.Calls.{sent, received, Speaks}
 use Rattle.kt_machine.specs.Seen.{SeenProcess}
+use Rattle.kt_machine.specs.Values.{Act}
 use Rattle.kt_process.specs.ProcessStates.{ProcessState}
 use Rattle.kt_process.specs.Shown.{IsSeenAs}
 use Rattle.kt_spacetime.specs.declared.named_rows.NamedCause.TheVariants.{Down}
@@ -130,6 +131,22 @@ done_first w e y from l is done = subst (λ (l : List NodeParcel). IsDone w e (t
 
 pub speaks_first : (y : NodeState) (from : ℕ) (l : List NodeParcel) → y.held from ≡ l → Speaks ((taking_held y from (y.held from)).state.calls) → Speaks ((taking_held y from l).state.calls)
 speaks_first y from l is s = subst (λ (l : List NodeParcel). Speaks ((taking_held y from l).state.calls)) is s
+
+-- what it asks of its object
+pub acts_up : (y : NodeState) (d o : Doing) (l : List Act) → y.up ≡ true → l ≡ d.acts → l ≡ (if y.up then d else o).acts
+acts_up y d o l is e = subst (λ (b : Bool). l ≡ (if b then d else o).acts) (sym is) e
+
+pub acts_down : (y : NodeState) (d o : Doing) (l : List Act) → y.up ≡ false → l ≡ o.acts → l ≡ (if y.up then d else o).acts
+acts_down y d o l is e = subst (λ (b : Bool). l ≡ (if b then d else o).acts) (sym is) e
+
+pub acts_first : (y : NodeState) (from : ℕ) (l : List NodeParcel) (acts : List Act) → y.held from ≡ l → acts ≡ (taking_held y from l).acts → acts ≡ (taking_held y from (y.held from)).acts
+acts_first y from l acts is e = subst (λ (l : List NodeParcel). acts ≡ (taking_held y from l).acts) (sym is) e
+
+pub acts_holding : (y : NodeState) (from label : ℕ) (body : ℤ) (acts : List Act) → is_in_rollback y ≡ true → acts ≡ [] → acts ≡ (taking_message y from label body).acts
+acts_holding y from label body acts r e = rw r e
+
+pub acts_arriving : (y : NodeState) (from label : ℕ) (body : ℤ) (acts : List Act) → is_in_rollback y ≡ false → acts ≡ (arriving y from label body).acts → acts ≡ (taking_message y from label body).acts
+acts_arriving y from label body acts r e = rw r e
 
 -- what it holds has a first one
 pub first_named : (w v : ManagerState) (y : NodeState) (from : ℕ) (x : Item) → w ≡ v → ShowsManager v y → held_of w.inbox from ≡ x ∷ drop 1 (held_of w.inbox from) → y.held from ≡ put.App x.label x.body ∷ drop 1 (y.held from)

@@ -1,5 +1,5 @@
 -- What a step puts out, as the node's rules have it.
-use Rattle.std.specs.Prelude.{◌≡◌, ℕ, ◌==◌, if◌then◌else◌, Option, Some, None, List, [], ◌∷◌}
+use Rattle.std.specs.Prelude.{◌≡◌, ℕ, ◌<◌, ◌==◌, if◌then◌else◌, true, Option, Some, None, List, [], ◌∷◌, All}
 use Rattle.kt_base.specs.Sets.{has}
 use Rattle.kt_base.specs.declared.words.Kind.{Kind}
 use Rattle.kt_spacetime.specs.declared.names.InstName.{InstName}
@@ -27,6 +27,13 @@ put_to puts.Nothing q = []
 put_to (puts.One to parcel) q = if q == to then parcel ∷ [] else []
 put_to (puts.Asks k kind asks) q = ask_with k kind (label_for asks q)
 put_to (puts.Decisions k c to) q = if has to q then Decide k c ∷ [] else []
+
+-- parcels are for processes below n
+abbrev pub AreWithin : ℕ → Parcels → Type 0
+AreWithin n puts.Nothing = Unit {0}
+AreWithin n (puts.One to parcel) = to < n
+AreWithin n (puts.Asks k kind asks) = All (λ ask. ask.0 < n) asks
+AreWithin n (puts.Decisions k c to) = (q : ℕ) → has to q ≡ true → q < n
 
 -- a manager has done this, and this is told of it
 pub record IsDone (w : ManagerState) (e : Told) (d : Doing) : Type 0 where

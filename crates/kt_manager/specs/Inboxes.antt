@@ -1,5 +1,5 @@
 -- The messages that a process has of each other one.
-use Rattle.std.specs.Prelude.{◌≡◌, ℕ, ◌≤◌, Option, List, [], ◌++◌, length, drop, slice_index_or}
+use Rattle.std.specs.Prelude.{◌≡◌, ℕ, ◌<◌, ◌≤◌, true, false, Option, List, [], ◌++◌, length, drop, slice_index_or}
 use Rattle.kt_base.specs.Sets.{has}
 use Rattle.kt_manager.specs.declared.received.Item.{Item}
 use Rattle.kt_manager.specs.Messages.{Messages, no_messages, HasRoom, has_some, within}
@@ -48,7 +48,11 @@ forgets marks kept q = drop (marks q) (kept q)
 abbrev pub puts_back : (ℕ → Option ℕ) → (ℕ → List Item) → (ℕ → List Item) → ℕ → List Item
 puts_back most kept held q = within (most q) (kept q) ++ within (most q) (held q)
 
--- there are few processes, and the set is of those of which it holds something
-pub record IsInbox (b : InboxLists) (holds : ℕ) : Type 0 where
+-- there are few processes; of one that is not in the first set it has nothing, and the second set is of those of which
+-- it holds something
+pub record IsInbox (b : InboxLists) (some holds : ℕ) : Type 0 where
   pub few : length b.senders ≤ 64
+  pub inside : (q : ℕ) → has some q ≡ true → q < length b.senders
+  pub no_kept : (q : ℕ) → has some q ≡ false → kept_of b q ≡ []
+  pub no_held : (q : ℕ) → has some q ≡ false → held_of b q ≡ []
   pub exact : (q : ℕ) → has holds q ≡ has_some (held_of b q)

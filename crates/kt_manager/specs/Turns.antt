@@ -1,5 +1,5 @@
 -- What a manager does by what its process answers.
-use Rattle.std.specs.Prelude.{◌≡◌, ℕ, ℤ, if◌then◌else◌, Bool, true, Option, Some, None, List, [], ◌∷◌, ◌++◌, length}
+use Rattle.std.specs.Prelude.{◌≡◌, ℕ, ℤ, ◌<◌, if◌then◌else◌, Bool, true, Option, Some, None, List, [], ◌∷◌, ◌++◌, length, All}
 use Rattle.kt_base.specs.declared.words.Cause.{Cause}
 use Rattle.kt_base.specs.declared.words.Cause.TheVariants as cause
 use Rattle.kt_base.specs.declared.words.Kind.{Kind}
@@ -9,7 +9,7 @@ use Rattle.kt_base.specs.declared.words.Kind.TheVariants.{Checkpoint, Rollback}
 use Rattle.kt_process.specs.declared.actions.Action.{Action}
 use Rattle.kt_process.specs.declared.actions.Action.TheVariants.{Nothing, Refuse, Join, Reply, Settle}
 use Rattle.kt_process.specs.declared.actions.Then.{Then}
-use Rattle.kt_process.specs.declared.actions.Then.TheVariants.{Wait}
+use Rattle.kt_process.specs.declared.actions.Then.TheVariants.{Wait, Answer, Commit}
 use Rattle.kt_process.specs.ProcessStates.{ProcessState}
 use Rattle.kt_process.specs.Shown.{BeginsAs, HearsAs, no_mark}
 use Rattle.kt_machine.specs.SeenJoining.{part_after_ask}
@@ -59,13 +59,24 @@ BeginsIn kind able y new action = BeginsAs kind (able_in kind able) y.processes 
 abbrev pub HearsIn : Kind → Bool → ℕ → InstName → ℕ → NodeState → ProcessState → Action → Type 0
 HearsIn kind able q k label y new action = HearsAs kind (able_in kind able) y.processes q (number_for y.inst k) label (marks_in kind y) (process_of y) new action
 
--- who joins asks nobody where it goes on at once
-pub record CanGoOn (asks : List (ℕ × ℕ)) (goes : Then) : Type 0 where
-  pub alone : (goes ≡ Wait → ⊥) → asks ≡ []
+-- it answers a process below n
+abbrev pub AnswersWithin : ℕ → Then → Type 0
+AnswersWithin n (Answer to) = to < n
+AnswersWithin n Wait = Unit {0}
+AnswersWithin n Commit = Unit {0}
 
-abbrev pub CanFollow : Action → Type 0
-CanFollow (Join asks goes) = CanGoOn asks goes
-CanFollow action = Unit {0}
+-- who joins asks and answers processes below n, and asks nobody where it goes on at once
+pub record CanGoOn (n : ℕ) (asks : List (ℕ × ℕ)) (goes : Then) : Type 0 where
+  pub alone : (goes ≡ Wait → ⊥) → asks ≡ []
+  pub asked : All (λ ask. ask.0 < n) asks
+  pub answered : AnswersWithin n goes
+
+abbrev pub CanFollow : ℕ → Action → Type 0
+CanFollow n (Join asks goes) = CanGoOn n asks goes
+CanFollow n (Reply to willing why) = to < n
+CanFollow n (Refuse why) = Unit {0}
+CanFollow n (Settle commit tell) = Unit {0}
+CanFollow n Nothing = Unit {0}
 
 -- the instance that a process is busy with is its own
 abbrev pub named_cause : Option InstName → Cause → NamedCause

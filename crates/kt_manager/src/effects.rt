@@ -131,7 +131,12 @@ impl Effects {
     {
         self.row_count = 0;
         self.act_count = 0;
-        self.parcels = Parcels::Nothing;
+        match self.parcels {
+            Parcels::Nothing => {}
+            Parcels::One { .. } | Parcels::Asks { .. } | Parcels::Decisions { .. } => {
+                self.parcels = Parcels::Nothing;
+            }
+        }
     }
 
     /// The rows, four at most.

@@ -1,7 +1,7 @@
 //! The messages that a process has of each other one: those that it received since its permanent checkpoint, which it
 //! keeps, and behind them those that it has still to take, which it holds.
 
-ghost use Rattle.std.specs.Prelude.{◌≡◌, ◌≢◌, ◌+◌, ◌<◌, ◌≤◌, ℕ, true, [], ◌∷◌, ◌++◌, length, take, drop, slice_get, slice_index, Option, IfOk, OnOk, OnErr, IfSome, IfNone};
+ghost use Rattle.std.specs.Prelude.{◌≡◌, ◌≢◌, ◌+◌, ◌<◌, ◌≤◌, ℕ, true, [], ◌∷◌, ◌++◌, ◌||◌, length, take, drop, slice_get, slice_index, Option, IfOk, OnOk, OnErr, IfSome, IfNone};
 ghost use Rattle.std.specs.Option.{option_copied};
 ghost use Rattle.kt_base.specs.Sets.{has};
 ghost use Rattle.kt_meaning.specs.Past.{at_one};
@@ -15,10 +15,12 @@ use std::marker::Model;
 
 /// One process's messages by sender.
 ///
-/// Each list has a border: a rollback makes kept messages held ones by moving it to the front.
+/// Each list has a border: a rollback makes kept messages held ones by moving it to the front. A set has each process of
+/// which there are messages, so that calls for all processes look at few lists.
 #[derive(Drop)]
 pub struct Inbox {
     lists: Vec<Received>,
+    some: ProcSet,
     holds: ProcSet,
 }
 
@@ -29,7 +31,7 @@ impl Model for Inbox {
 
     ghost view = { λ b. record { senders = b.lists.items } };
 
-    ghost invariant = { λ b. IsInbox (record { senders = b.lists.items }) b.holds };
+    ghost invariant = { λ b. IsInbox (record { senders = b.lists.items }) b.some b.holds };
 }
 
 /// Notes whether it holds something of a process, whose messages these are.
@@ -42,6 +44,19 @@ fn note(holds: &mut ProcSet, from: ProcNo, list: &Received)
         holds.with(from)
     } else {
         holds.without(from)
+    };
+}
+
+/// Notes whether it has something of a process, whose messages these are.
+#[inline(always)]
+fn note_some(some: &mut ProcSet, from: ProcNo, list: &Received)
+    ensures here { has some.new from ≡ (has_some list.now.kept || has_some list.now.held) }
+    ensures others { (q : ℕ) → q ≢ from → has some.new q ≡ has some.old q }
+{
+    *some = if list.len() > 0 {
+        some.with(from)
+    } else {
+        some.without(from)
     };
 }
 
@@ -59,6 +74,7 @@ impl Inbox {
         }
         Ok(Inbox {
             lists,
+            some: ProcSet::empty(),
             holds: ProcSet::empty(),
         })
     }
@@ -144,6 +160,7 @@ impl Inbox {
     {
         let list = &mut self.lists[from.index()];
         list.keep(item);
+        self.some = self.some.with(from);
     }
 
     /// It holds a message of a process, in room made beforehand.
@@ -158,6 +175,7 @@ impl Inbox {
     {
         let list = &mut self.lists[from.index()];
         list.hold(item);
+        self.some = self.some.with(from);
         self.holds = self.holds.with(from);
     }
 
@@ -198,9 +216,12 @@ impl Inbox {
         ensures held { held_of self.new ≡ held_of self.old }
         ensures space { space_of self.new ≡ space_of self.old }
     {
-        for (place, mark) in marks.iter().enumerate() {
-            let list = &mut self.lists[place];
-            list.forget(*mark);
+        let mut rest = self.some;
+        while let Some(from) = rest.first() {
+            let list = &mut self.lists[from.index()];
+            list.forget(marks[from.index()]);
+            note_some(&mut self.some, from, list);
+            rest = rest.without(from);
         }
     }
 
@@ -214,6 +235,7 @@ impl Inbox {
     {
         let list = &mut self.lists[from.index()];
         list.put_back(most);
+        note_some(&mut self.some, from, list);
         note(&mut self.holds, from, list);
     }
 
@@ -226,9 +248,10 @@ impl Inbox {
             held_of self.new ≡ puts_back most (kept_of self.old) (held_of self.old) }
         ensures space { space_of self.new ≡ space_of self.old }
     {
-        for number in 0..self.processes() as u8 {
-            let from = ProcNo::nth(number);
+        let mut rest = self.some;
+        while let Some(from) = rest.first() {
             self.put_back(from, noted(from));
+            rest = rest.without(from);
         }
     }
 
@@ -237,7 +260,12 @@ impl Inbox {
         ensures length { IfOk result (λ marks. length marks.items ≡ processes_of self.now) }
         ensures marks { IfOk result (λ marks. slice_index marks.items ≡ counts_of (kept_of self.now)) }
     {
-        let marks = self.lists.iter().map(|list| list.kept_count());
-        Ok(marks.collect(alloc)?)
+        let mut marks = vec![in alloc; 0; self.processes()]?;
+        let mut rest = self.some;
+        while let Some(from) = rest.first() {
+            marks[from.index()] = self.kept_count(from);
+            rest = rest.without(from);
+        }
+        Ok(marks)
     }
 }

@@ -140,9 +140,13 @@ impl Received {
     }
 
     /// The first ones that are kept go, as many as that.
+    #[inline(always)]
     pub(crate) fn forget(&mut self, count: usize)
         ensures { self.new ≡ record { kept = drop count self.old.kept; held = self.old.held; space = self.old.space } }
     {
+        if count == 0 {
+            return;
+        }
         let gone = count.min(self.kept);
         drop_first(&mut self.items, gone);
         self.kept -= gone;

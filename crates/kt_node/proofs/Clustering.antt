@@ -1,6 +1,6 @@
 -- One step of a cluster is one of the net that it is.
 use Rattle.std.proofs.Common.{◌≡◌, ◌≢◌, ◌∙◌, ℕ, ◌+◌, ◌<◌, Some, List, [], ◌∷◌, ◌++◌, length, map, refl, sym, ap, ap₂, subst, arith, inl, inr}
-use Rattle.std.specs.Prelude.{◌==◌, ◌&&◌, if◌then◌else◌, Option, Result, Ok, Err, IsErr, IsErrAnd, slice_index, slice_index_or, slice_set}
+use Rattle.std.specs.Prelude.{◌==◌, ◌&&◌, if◌then◌else◌, Option, Result, Ok, Err, true, IsErr, IsErrAnd, IsErrOf, slice_index, slice_index_or, slice_set}
 use Rattle.std.proofs.lemmas.Option.{get_or_from_slice_get}
 use Rattle.kt_meaning.proofs.Items.{item_there}
 use Rattle.kt_manager.specs.ShownActs.{acts_shown}
@@ -31,7 +31,7 @@ use Rattle.kt_node.specs.declared.cluster.ClusterFault.TheVariants as fault
 use Rattle.kt_node.specs.declared.cluster.OnWay.{OnWay}
 use Rattle.kt_node.specs.declared.node.Output.{Output}
 use Rattle.kt_node.specs.declared.reach.Reaches.{Reaches}
-use Rattle.kt_node.specs.Clusters.{ClusterState, link, ShowsClocked, ShowsNet, net_after, IsRun, ArePromised, AreFresh, coming, coming_to, IsRefusedIn, IsSpent, IsSpentIn, IsSpentAs, doing_at, IsPutOut, HasNextNumbers, IsSpeakable, IsTurn}
+use Rattle.kt_node.specs.Clusters.{ClusterState, link, ShowsClocked, ShowsNet, net_after, IsRun, ArePromised, AreFresh, coming, coming_to, wants_coming, IsRefusedIn, IsSpent, IsSpentIn, IsSpentAs, doing_at, IsPutOut, HasNextNumbers, HasTaken, IsSpeakable, IsTurn}
 use Rattle.kt_manager.specs.Effects.{put_to}
 use Rattle.kt_node.specs.Links.{NodeLinks, IsSameNode}
 use Rattle.kt_node.specs.Managers.{ShowsNode}
@@ -52,6 +52,15 @@ nodes_with nodes p old new states states' clocks clocks' b h here s t u k l = el
   | inr n ↦ subst (λ (m : NodeLinks). ShowsClocked m (states' u) (clocks' u)) (sym (get_or-set_other nodes p u new k n))
       (subst (λ (c : ℕ). ShowsClocked (slice_index_or nodes u k) (states' u) c) (sym (t u n)) (subst (λ (y : NodeState). ShowsClocked (slice_index_or nodes u k) y (clocks u)) (sym (s u n)) (h u k (subst (λ (m : ℕ). u < m) (size_set nodes p new) l))))
 ]
+
+pub same_itself : (w : NodeLinks) → IsSameNode w w
+same_itself w = record {
+  manager = record { size = refl; me = refl; process = refl; inst = refl; begun = refl; held = refl; kept = refl; asks = refl; answered = refl };
+  clock = refl;
+  sent = refl;
+  taken = refl;
+  reaches = refl;
+}
 
 -- a node that is the same shows the same
 same_clocked : (new old : NodeLinks) (y : NodeState) (c : ℕ) → IsSameNode new old → ShowsClocked old y c → ShowsClocked new y c
@@ -233,6 +242,11 @@ module _ (c : ClusterState) (x : ProtocolStep) (nodes : List NodeLinks) (after w
           sent = sym t.numbers;
         }
 
+    pub step_takes : (k : NodeLinks) → HasTaken (clocked_input (net_after c steps) x) (slice_index_or c.nodes (stepper x) k) (slice_index_or nodes (stepper x) k)
+    step_takes k =
+        let t = turn ((net_after c steps).nodes (stepper x)) k (s.nodes (stepper x) k b).node.manager (speaks_there law c steps x s few) in
+        subst (λ (o : Option Input). HasTaken o (slice_index_or c.nodes (stepper x) k) (slice_index_or nodes (stepper x) k)) (sym (comes_there c (net_after c steps) x t.input s few t.comes)) t.taken
+
     pub step_acts : acts_shown out.effects.acts ≡ clocked_acts (net_after c steps) x
     step_acts = its_turn.done.acts ∙ acts_there c (net_after c steps) x stepping.0 (slice_index_or nodes (stepper x) stepping.0) after out s few its_turn
 
@@ -260,6 +274,24 @@ module _ (c : ClusterState) (x : ProtocolStep) (nodes : List NodeLinks) (after w
       let n = s.nodes (stepper x) stepping.0 b in
       subst (λ (clock : ℕ). IsSpentAs (IsSpent clock (coming_to w x) (w.channel (source_of x) (stepper x))) r) n.ticks
       (subst (λ (es : List Envelope). IsSpentAs (IsSpent (slice_index_or c.nodes (stepper x) stepping.0).clock (coming y x es) es) r) (s.links (source_of x) (stepper x) few) (spent y stepping.0 n.node.manager))
+
+  -- whether memory was wanting
+  pub wanting : {X : Type 0} (r : Result X ClusterFault) (f : ClusterFault)
+      → ((y : NodeState) (k : NodeLinks) → ShowsNode (slice_index_or c.nodes (stepper x) k).manager y → IsErrOf r f → wants_coming y (coming y x (link c.on_way (source_of x) (stepper x))) ≡ true)
+      → (steps : List ProtocolStep) → IsRun c steps → IsErrOf r f → wants_coming ((net_after c steps).nodes (stepper x)) (coming_to (net_after c steps) x) ≡ true
+  wanting r f wants steps s e =
+      let y = (net_after c steps).nodes (stepper x) in
+      subst (λ (es : List Envelope). wants_coming y (coming y x es) ≡ true) (s.links (source_of x) (stepper x) few) (wants y stepping.0 (s.nodes (stepper x) stepping.0 b).node.manager e)
+
+  -- the other nodes are as they were, and where this one is, all are
+  pub other_nodes : Others → (p : ℕ) (k : NodeLinks) → (p ≡ stepper x → ⊥) → slice_index_or nodes p k ≡ slice_index_or c.nodes p k
+  other_nodes others p k other = ap (λ (l : List NodeLinks). slice_index_or l p k) (others stepping.0) ∙ get_or-set_other c.nodes (stepper x) p (slice_index_or nodes (stepper x) stepping.0) k other
+
+  pub same_nodes : Others → ((k : NodeLinks) → IsSameNode (slice_index_or nodes (stepper x) k) (slice_index_or c.nodes (stepper x) k)) → (p : ℕ) (k : NodeLinks) → IsSameNode (slice_index_or nodes p k) (slice_index_or c.nodes p k)
+  same_nodes others same p k = elim (cases_eq p (stepper x)) [
+    | inl e ↦ subst (λ (q : ℕ). IsSameNode (slice_index_or nodes q k) (slice_index_or c.nodes q k)) (sym e) (same k)
+    | inr n ↦ subst (λ (m : NodeLinks). IsSameNode m (slice_index_or c.nodes p k)) (sym (other_nodes others p k n)) (same_itself (slice_index_or c.nodes p k))
+  ]
 
 pub same_err : {X : Type 0} (r : Result X ClusterFault) (f : ClusterFault) → IsErr r × IsErrAnd r (λ (g : ClusterFault). g ≡ f) → r ≡ Err f
 same_err (Ok x) f h = absurd (cc h.0)

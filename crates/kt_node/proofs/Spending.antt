@@ -26,6 +26,11 @@ pub spent_as : {X : Type 0} (P : Type 0) (f : NodeFault) (r : Result X ClusterFa
 spent_as P f (Ok out) e h = absurd (cc e.0)
 spent_as {X = X} P f (Err k) e h = subst (λ (g : ClusterFault). IsSpentAs {X = X} P (Err g)) (sym e.1) h
 
+-- it answers a fault of its node only where the node does
+pub node_answers : {X : Type 0} (f g : NodeFault) (r : Result X ClusterFault) → IsErr r × IsErrAnd r (λ (h : ClusterFault). h ≡ cluster.Node f) → IsErrOf r (cluster.Node g) → f ≡ g
+node_answers f g (Ok out) e h = absurd (cc h)
+node_answers f g (Err k) e h = cc (e.1, h)
+
 -- what comes of a link has a clock of its own
 pub is_spent : (n clock : ℕ) (o : Option Input) (came : Input) (es : List Envelope) → o ≡ Some came → clock_after n came es ≡ max n clock + 1 → (2 ^ 64 - 2 ≤ max n clock → IsSpent n o es) × (IsSpent n o es → 2 ^ 64 - 2 ≤ max n clock)
 is_spent n clock o came es e a = subst (λ (o : Option Input). (2 ^ 64 - 2 ≤ max n clock → IsSpent n o es) × (IsSpent n o es → 2 ^ 64 - 2 ≤ max n clock)) (sym e) (λ l. omega (arith, l, a), λ l. omega (arith, l, a))

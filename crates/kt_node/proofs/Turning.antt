@@ -1,6 +1,6 @@
 -- What comes to a node at a step, and what it makes of it.
 use Rattle.std.proofs.Common.{◌≡◌, ◌∙◌, ℕ, ◌+◌, Bool, true, false, Some, List, ◌∷◌, max, sym, ap, ap₂, subst, arith, inl, inr}
-use Rattle.std.specs.Prelude.{◌==◌, ◌&&◌, not, if◌then◌else◌, Option, Result, Ok, Err, IsErr, IsErrAnd, slice_index_or}
+use Rattle.std.specs.Prelude.{◌==◌, ◌&&◌, not, if◌then◌else◌, Option, Result, Ok, Err, IsErr, IsErrAnd, slice_index, slice_index_or}
 use Rattle.std.specs.List.{remove}
 use Rattle.std.proofs.lemmas.Bool.{cases_eq}
 use Rattle.kt_protocol.specs.States.{ProtocolStep, Take}
@@ -15,7 +15,7 @@ use Rattle.kt_node.specs.declared.node.NodeFault.{NodeFault}
 use Rattle.kt_node.specs.declared.node.Output.{Output}
 use Rattle.kt_node.specs.declared.cluster.ClusterFault.{ClusterFault}
 use Rattle.kt_node.specs.declared.cluster.ClusterFault.TheVariants as cluster
-use Rattle.kt_node.specs.Clusters.{link, fault_coming, IsFront, IsRefusedIn, IsTurn}
+use Rattle.kt_node.specs.Clusters.{link, fault_coming, IsFront, IsRefusedIn, IsTurn, taken_after}
 use Rattle.kt_node.specs.Faults.{fault_at}
 use Rattle.kt_node.specs.Links.{NodeLinks, IsStep, IsNodeFaultAs}
 use Rattle.kt_node.proofs.OnWay.{both_same, nobody, front_comes, front_left}
@@ -35,8 +35,9 @@ next_clock c = omega arith
 
 -- a step that takes nothing of a link
 pub own_turn : (old new : NodeLinks) (ways : List OnWay) (y : NodeState) (x : ProtocolStep) (i : Input) (out : Output) → input_at y x (link ways (source_of x) (stepper x)) ≡ Some i
-    → ((c : ℕ) (es : List Envelope) → clock_after c i es ≡ c + 1) → ((es : List Envelope) → left_after i es ≡ es) → IsStep old new 0 y i out → IsTurn old new ways ways y x out
-own_turn old new ways y x i out e ticks left s = record {
+    → ((c : ℕ) (es : List Envelope) → clock_after c i es ≡ c + 1) → ((es : List Envelope) → left_after i es ≡ es) → ((q : ℕ) → slice_index new.taken q ≡ taken_after i old.taken q) → IsStep old new 0 y i out
+    → IsTurn old new ways ways y x out
+own_turn old new ways y x i out e ticks left taken s = record {
   input = i;
   comes = e;
   done = s.done;
@@ -46,6 +47,7 @@ own_turn old new ways y x i out e ticks left s = record {
   sender = s.sender;
   sent = s.sent;
   numbers = s.numbers;
+  taken = taken;
   left = λ u v. same_left ways (source_of x) (stepper x) u v ∙ ap (λ (es : List Envelope). if u == source_of x && v == stepper x then es else link ways u v) (sym (left (link ways (source_of x) (stepper x))));
 }
 
@@ -58,8 +60,9 @@ front_input_is b q able es rest e t is = ap (λ (s : Bool). if s then Some (Held
 
 -- a step that takes the front of a link
 pub front_turn : (old new : NodeLinks) (before after : List OnWay) (y : NodeState) (p q place : ℕ) (able : Bool) (x : OnWay) (out : Output) → IsFront before q p place → x ≡ slice_index_or before place x
-    → (not (is_in_rollback y) && has_some (y.held q)) ≡ false → after ≡ remove before place → IsStep old new x.clock y (Comes q able x.parcel) out → IsTurn old new before after y (Take p q able) out
-front_turn old new before after y p q place able x out f e t is s =
+    → (not (is_in_rollback y) && has_some (y.held q)) ≡ false → after ≡ remove before place
+    → ((u : ℕ) → slice_index new.taken u ≡ taken_after (Comes q able x.parcel) old.taken u) → IsStep old new x.clock y (Comes q able x.parcel) out → IsTurn old new before after y (Take p q able) out
+front_turn old new before after y p q place able x out f e t is taken s =
     let front = front_comes before q p place x f e in record {
       input = Comes q able x.parcel;
       comes = front_input_is (not (is_in_rollback y) && has_some (y.held q)) q able (link before q p) (link (remove before place) q p) (envelope x.clock x.parcel) t front;
@@ -70,6 +73,7 @@ front_turn old new before after y p q place able x out f e t is s =
       sender = s.sender;
       sent = s.sent;
       numbers = s.numbers;
+      taken = taken;
       left = λ u v. ap (λ (l : List OnWay). link l u v) is ∙ front_left before q p place x f e u v;
     }
 

@@ -1,6 +1,6 @@
 -- Nodes with links in one program, and which net with clocks they are.
-use Rattle.std.specs.Prelude.{◌≡◌, ◌<◌, ◌≤◌, ◌+◌, ◌-◌, ◌^◌, ◌==◌, ◌&&◌, not, if◌then◌else◌, ℕ, Option, Some, None, Result, Ok, Err, List, [], ◌∷◌, length, map, take, slice_index, slice_index_or}
-use Rattle.kt_meaning.specs.Past.{is_rollback_kind}
+use Rattle.std.specs.Prelude.{◌≡◌, ◌<◌, ◌≤◌, ◌+◌, ◌-◌, ◌^◌, ◌==◌, ◌&&◌, not, if◌then◌else◌, ℕ, Bool, false, Option, Some, None, Result, Ok, Err, List, [], ◌∷◌, length, map, take, slice_index, slice_index_or}
+use Rattle.kt_meaning.specs.Past.{at_one, is_rollback_kind}
 use Rattle.kt_meaning.specs.Names.{numbered}
 use Rattle.kt_meaning.specs.Promised.{IsPromised, IsCertified}
 use Rattle.kt_protocol.specs.States.{ProtocolStep}
@@ -28,7 +28,7 @@ use Rattle.kt_node.specs.declared.node.Output.{Output}
 use Rattle.kt_node.specs.declared.faults.ManagerFault.{ManagerFault}
 use Rattle.kt_node.specs.Effects.{IsDone}
 use Rattle.kt_manager.specs.Effects.{put_to}
-use Rattle.kt_node.specs.Faults.{fault_at}
+use Rattle.kt_node.specs.Faults.{fault_at, wants_memory}
 use Rattle.kt_node.specs.Links.{NodeLinks, ShowsLinks, IsNodeFaultAs}
 use Rattle.kt_node.specs.Reaches.{HasReaches}
 
@@ -101,6 +101,11 @@ abbrev pub fault_coming : NodeState → Option Input → Option ManagerFault
 fault_coming y None = None
 fault_coming y (Some x) = fault_at y x
 
+-- whether its manager asks for memory at what comes
+abbrev pub wants_coming : NodeState → Option Input → Bool
+wants_coming y None = false
+wants_coming y (Some x) = wants_memory y x
+
 -- something comes, and its manager takes it
 abbrev pub IsTaken : NodeState → Option Input → Type 0
 IsTaken y None = ⊥
@@ -164,6 +169,19 @@ pub record HasNextNumbers (old new : NodeLinks) (out : Output) : Type 0 where
   pub numbers : (q : ℕ) → q < 64 → slice_index out.numbers q ≡ slice_index old.sent q + length (put_to out.effects.parcels q)
   pub sent : new.sent ≡ out.numbers
 
+-- how many parcels a node took of each process, after what comes to it
+abbrev pub taken_after : Input → List ℕ → ℕ → ℕ
+taken_after (input.Comes q able x) taken = at_one q (slice_index taken q + 1) (slice_index taken)
+taken_after (input.Send q body) taken = slice_index taken
+taken_after (input.Begin roll able) taken = slice_index taken
+taken_after input.Fail taken = slice_index taken
+taken_after (input.Held q) taken = slice_index taken
+
+-- something comes to a node, which has counted what it took of a link
+abbrev pub HasTaken : Option Input → NodeLinks → NodeLinks → Type 0
+HasTaken None old new = ⊥
+HasTaken (Some x) old new = (q : ℕ) → slice_index new.taken q ≡ taken_after x old.taken q
+
 -- the front of a link stands here
 pub record IsFront (on_way : List OnWay) (p q place : ℕ) : Type 0 where
   pub within : place < length on_way
@@ -181,5 +199,6 @@ pub record IsTurn (old new : NodeLinks) (before after : List OnWay) (y : NodeSta
   pub sender : out.from ≡ new.manager.me
   pub sent : (q : ℕ) → q < 64 → slice_index new.sent q ≡ slice_index old.sent q + length ((node_after y input).puts q)
   pub numbers : out.numbers ≡ new.sent
+  pub taken : (q : ℕ) → slice_index new.taken q ≡ taken_after input old.taken q
   pub left : (u v : ℕ) → link after u v
       ≡ (if u == source_of x && v == stepper x then left_after input (link before (source_of x) (stepper x)) else link before u v)

@@ -4,7 +4,7 @@ use Rattle.kt_manager.specs.declared.parcels.NodeParcel.{NodeParcel}
 use Rattle.kt_manager.specs.declared.parcels.NodeParcel.TheVariants.{App, Ask, Reply, Decide}
 use Rattle.kt_manager.specs.Nodes.{NodeState, is_in_rollback}
 use Rattle.kt_node.specs.Inputs.{Input, Send, Begin, Fail, Held, Comes}
-use Rattle.kt_node.specs.NodeSteps.{is_begun, awaits, heeds}
+use Rattle.kt_node.specs.NodeSteps.{is_begun}
 use Rattle.kt_node.specs.Nets.{has_some}
 use Rattle.kt_node.specs.declared.faults.ManagerFault.{ManagerFault}
 use Rattle.kt_node.specs.declared.faults.ManagerFault.TheVariants as fault
@@ -47,20 +47,20 @@ fault_at y Fail = None
 fault_at y (Held q) = or_else (stranger y q) (if is_in_rollback y then Some fault.HoldsNone else first_held (y.held q))
 fault_at y (Comes q able x) = or_else (stranger y q) (if not (is_in_rollback y) && has_some (y.held q) then Some fault.HeldFirst else parcel_fault y x)
 
--- whether it needs room at a parcel: to keep or hold a message, for its part in an instance, to hold again what it keeps
-abbrev pub wants_room : NodeState → ℕ → NodeParcel → Bool
-wants_room y q (App label body) = is_in_rollback y || y.up
-wants_room y q (Ask k kind label) = true
-wants_room y q (Reply k w) = is_in_rollback y && awaits y q k
-wants_room y q (Decide k c) = is_in_rollback y && heeds y q k
+-- whether it asks for room at a parcel: to keep or hold a message, or for its part in an instance
+abbrev pub wants_room : NodeState → NodeParcel → Bool
+wants_room y (App label body) = is_in_rollback y || y.up
+wants_room y (Ask k kind label) = true
+wants_room y (Reply k w) = false
+wants_room y (Decide k c) = false
 
 -- whether it asks for memory at an input: only then may memory be a reason
 abbrev pub wants_memory : NodeState → Input → Bool
 wants_memory y (Send q body) = false
 wants_memory y (Begin roll able) = true
 wants_memory y Fail = false
-wants_memory y (Held q) = y.up
-wants_memory y (Comes q able x) = wants_room y q x
+wants_memory y (Held q) = false
+wants_memory y (Comes q able x) = wants_room y x
 
 -- a fault, unless it is want of memory
 abbrev pub but_memory : ManagerFault → Option ManagerFault

@@ -1,19 +1,21 @@
 //! A cluster: nodes with a link from each to each other one, in one program.
 
-ghost use Rattle.std.specs.Prelude.{◌≡◌, ◌≤◌, ◌↔◌, ℕ, [], ◌∷◌, ◌++◌, List, Some, length, map, slice_index_or, IfOk, OnErr, IsErrOf};
+ghost use Rattle.std.specs.Prelude.{◌≡◌, ◌≤◌, ◌↔◌, ℕ, [], ◌∷◌, ◌++◌, List, Some, length, map, slice_index_or, true, IfOk, OnErr, IsErrOf};
 ghost use Rattle.kt_protocol.specs.States.{ProtocolStep};
 ghost use Rattle.kt_meaning.specs.Names.{numbered};
 ghost use Rattle.kt_meaning.specs.Promised.{IsPromised};
 ghost use Rattle.kt_spacetime.specs.declared.event.Event.{Event};
 ghost use Rattle.kt_machine.specs.Acts.{stepper};
-ghost use Rattle.kt_node.specs.Clocks.{clocked_acts, clocked_row, AreByClock};
+ghost use Rattle.kt_node.specs.Clocks.{clocked_acts, clocked_input, clocked_row, AreByClock};
 ghost use Rattle.kt_node.specs.Erasing.{rows_from};
 ghost use Rattle.kt_spacetime.specs.declared.named_rows.ClockedRow.{ClockedRow as clocked_rows};
 ghost use Rattle.kt_spacetime.specs.ClockedRows.{rows_of};
 ghost use Rattle.kt_manager.specs.ShownActs.{acts_shown};
-ghost use Rattle.kt_node.specs.Links.{NodeLinks};
-ghost use Rattle.kt_node.specs.Clusters.{step_of, net_after, IsRun, AreFresh, ArePromised, coming_to, IsRefusedIn, IsSpentIn, IsSpentAs, IsPutOut, HasNextNumbers};
+ghost use Rattle.kt_node.specs.Links.{NodeLinks, IsSameNode};
+ghost use Rattle.kt_node.specs.Clusters.{step_of, net_after, IsRun, AreFresh, ArePromised, coming_to, wants_coming, IsRefusedIn, IsSpentIn, IsSpentAs, IsPutOut, HasNextNumbers, HasTaken};
 ghost use Rattle.kt_node.specs.declared.cluster.ClusterFault.TheVariants as fault;
+ghost use Rattle.kt_node.specs.declared.node.NodeFault.TheVariants as of_node;
+ghost use Rattle.kt_node.specs.declared.faults.ManagerFault.TheVariants as of_manager;
 
 use crate::node::{Node, NodeFault, Output};
 use kt_base::{Kind, Label, Memory, ProcNo};
@@ -197,6 +199,10 @@ impl Cluster {
         ensures numbers { (k : NodeLinks) → let p = stepper (step_of next.now) in
             IfOk result (HasNextNumbers (slice_index_or self.old.nodes p k)
             (slice_index_or self.new.nodes p k)) }
+        ensures taken { (steps : List ProtocolStep) (k : NodeLinks) → IsRun self.old steps →
+            let x = step_of next.now in let p = stepper x in
+            IfOk result (λ out. HasTaken (clocked_input (net_after self.old steps) x)
+            (slice_index_or self.old.nodes p k) (slice_index_or self.new.nodes p k)) }
 
         // So its acts are those that the laws of nets speak of, and its rows are told with its clock.
         ensures acts { (steps : List ProtocolStep) → IsRun self.old steps →
@@ -211,12 +217,20 @@ impl Cluster {
         ensures spent { (steps : List ProtocolStep) → IsRun self.old steps →
             (result ≡ Err fault.Unknown → ⊥) →
             IsSpentAs (IsSpentIn (net_after self.old steps) (step_of next.now)) result }
+        ensures memory { (steps : List ProtocolStep) → IsRun self.old steps →
+            IsErrOf result (fault.Node (of_node.Manager of_manager.Memory)) →
+            let x = step_of next.now in let w = net_after self.old steps in
+            wants_coming (w.nodes (stepper x)) (coming_to w x) ≡ true }
         ensures unknown { IsErrOf result fault.Unknown
             ↔ (length self.old.nodes ≤ stepper (step_of next.now)) }
         ensures nodes { length self.new.nodes ≡ length self.old.nodes }
         ensures first { self.new.first ≡ self.old.first }
         ensures err { (steps : List ProtocolStep) → IsRun self.old steps →
             OnErr result (IsRun self.new steps) }
+        ensures same { (p : ℕ) (k : NodeLinks) → OnErr result
+            (IsSameNode (slice_index_or self.new.nodes p k) (slice_index_or self.old.nodes p k)) }
+        ensures others { (p : ℕ) (k : NodeLinks) → (p ≡ stepper (step_of next.now) → ⊥) →
+            slice_index_or self.new.nodes p k ≡ slice_index_or self.old.nodes p k }
     {
         crate::laws::nets_are_runs();
         let at = next.at();

@@ -21,6 +21,7 @@ ghost use Rattle.kt_node.specs.Reaches.{HasReaches};
 ghost use Rattle.kt_node.specs.Links.{AreCounted, ShowsLinks, IsStep, TakesNext, IsUntaken, IsSameNode, IsSpoken, IsGiven, IsHeldMetAs, IsMetAs, IsNodeRefusedAs, IsParcelRefusedAs};
 ghost use Rattle.kt_node.specs.declared.faults.ManagerFault.TheVariants as of_manager;
 ghost use Rattle.kt_node.specs.declared.node.NodeFault.TheVariants as fault;
+ghost use Rattle.kt_node.specs.declared.node.Taken.TheVariants as taken;
 
 use crate::faults::ManagerFault;
 use crate::inputs::Input;
@@ -117,7 +118,10 @@ impl Model for Node {
 impl Output {
     /// The output of no step, to be filled by one.
     pub fn new() -> Output
-        ensures { result.effects ≡ nothing_told }
+        ensures effects { result.effects ≡ nothing_told }
+        ensures from { result.from ≡ 0 }
+        ensures clock { result.clock ≡ 0 }
+        ensures numbers { (q : ℕ) → slice_index result.numbers q ≡ 0 }
     {
         Output {
             from: ProcNo::nth(0),
@@ -413,8 +417,7 @@ impl Node {
             IsNodeRefusedAs (fault_at y (Held from)) result }
         ensures spent { IsErrOf result fault.ClockSpent
             ↔ ((is_stale_held self.old from ≡ false) × (2 ^ 64 - 2 ≤ self.old.clock)) }
-        ensures memory { (y : NodeState) → ShowsNode self.old.manager y →
-            IsErrOf result (fault.Manager of_manager.Memory) → wants_memory y (Held from) ≡ true }
+        ensures memory { IsErrOf result (fault.Manager of_manager.Memory) → ⊥ }
         ensures taken { self.new.taken ≡ self.old.taken }
         ensures err { OnErr result (IsSameNode self.new self.old) }
         ensures out { OnErr result (out.new ≡ out.old) }
@@ -434,8 +437,7 @@ impl Node {
             IsNodeRefusedAs (fault_at y (Held from)) result }
         ensures given { IsGiven result }
         ensures spent { IsErrOf result fault.ClockSpent ↔ (2 ^ 64 - 2 ≤ self.old.clock) }
-        ensures memory { (y : NodeState) → ShowsNode self.old.manager y →
-            IsErrOf result (fault.Manager of_manager.Memory) → wants_memory y (Held from) ≡ true }
+        ensures memory { IsErrOf result (fault.Manager of_manager.Memory) → ⊥ }
         ensures taken { self.new.taken ≡ self.old.taken }
         ensures err { OnErr result (IsSameNode self.new self.old) }
         ensures out { OnErr result (out.new ≡ out.old) }
@@ -469,6 +471,7 @@ impl Node {
         ensures memory { let x = Comes from able envelope.now.parcel in
             (y : NodeState) → ShowsNode self.old.manager y →
             IsErrOf result (fault.Manager of_manager.Memory) → wants_memory y x ≡ true }
+        ensures again { result ≡ Ok taken.Again → out.new ≡ out.old }
         ensures err { OnErr result (IsSameNode self.new self.old) }
         ensures out { OnErr result (out.new ≡ out.old) }
     {

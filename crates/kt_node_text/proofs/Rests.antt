@@ -3,7 +3,7 @@ use Rattle.std.specs.Prelude.{All, Option, Some, None, slice_get}
 use Rattle.std.specs.List.{flat_map}
 use Rattle.std.proofs.Common.{◌≡◌, ◌∙◌, ◌+◌, ◌<◌, ◌≤◌, ℕ, List, [], ◌∷◌, ◌++◌, length, get_or, take, drop, sym, ap, subst, arith, inl, inr, append_assoc, add-one}
 use Rattle.std.proofs.lemmas.List.{at_drop_more, at_drop_all, take_all}
-use Rattle.std.proofs.lemmas.List.Elements.{All-more}
+use Rattle.std.proofs.lemmas.List.Elements.{All-more, All-nil, All-cons}
 use Rattle.std.proofs.lemmas.Option.{slice_get_cases}
 use Rattle.kt_node_text.specs.Form.{gather}
 use Rattle.kt_node_text.proofs.Same.{no_rest}
@@ -23,6 +23,21 @@ pub rest_all : {X : Type 0} (f : X → List ℕ) (before : List ℕ) (xs : List 
     IsWithRest f before xs i out → length xs ≤ i → out ≡ before ++ flat_map f xs
 rest_all {X} f before xs i out h b =
     sym (no_rest out) ∙ (ap (λ (l : List ℕ). out ++ l) (sym (at_drop_all (λ (l : List X). flat_map f l) xs i b)) ∙ h)
+
+-- with what an iterator has left, it is all
+abbrev pub IsWithLeft : {X : Type 0} → (X → List ℕ) → List ℕ → List X → List X → List ℕ → Type 0
+IsWithLeft f before all left out = out ++ flat_map f left ≡ before ++ flat_map f all
+
+pub left_more : {X : Type 0} (f : X → List ℕ) (before : List ℕ) (all left : List X) (x : X) (rest : List X) (out new : List ℕ) →
+    IsWithLeft f before all left out → left ≡ x ∷ rest → new ≡ out ++ f x → IsWithLeft f before all rest new
+left_more {X} f before all left x rest out new h e n =
+    let t = flat_map f rest in
+    ap (λ (l : List ℕ). l ++ t) n ∙ (append_assoc out (f x) t ∙ (ap (λ (l : List X). out ++ flat_map f l) (sym e) ∙ h))
+
+pub left_none : {X : Type 0} (f : X → List ℕ) (before : List ℕ) (all left : List X) (out : List ℕ) →
+    IsWithLeft f before all left out → left ≡ [] → out ≡ before ++ flat_map f all
+left_none {X} f before all left out h e =
+    sym (no_rest out) ∙ (ap (λ (l : List X). out ++ flat_map f l) (sym e) ∙ h)
 
 pub gather_none : (f : ℕ → List ℕ) (before : List ℕ) → before ≡ before ++ gather 0 f
 unfolding gather
@@ -55,6 +70,16 @@ range_more P xs i x h b e p = All-more P xs i x b h (subst P e p)
 
 pub range_all : {X : Type 0} (P : X → Type 0) (xs : List X) (i : ℕ) → All P (take i xs) → length xs ≤ i → All P xs
 range_all {X} P xs i h b = subst (λ (l : List X). All P l) (take_all i xs b) h
+
+-- what is so of each element of all, once it is so of what is left
+abbrev pub IsIfLeft : {X : Type 0} → (X → Type 0) → List X → List X → Type 0
+IsIfLeft P all left = All P left → All P all
+
+pub if_left_more : {X : Type 0} (P : X → Type 0) (all left : List X) (x : X) (rest : List X) → IsIfLeft P all left → left ≡ x ∷ rest → P x → IsIfLeft P all rest
+if_left_more {X} P all left x rest h e p = λ r. h (subst (λ (l : List X). All P l) (sym e) (All-cons P x rest p r))
+
+pub if_left_none : {X : Type 0} (P : X → Type 0) (all left : List X) → IsIfLeft P all left → left ≡ [] → All P all
+if_left_none {X} P all left h e = h (subst (λ (l : List X). All P l) (sym e) (All-nil P))
 
 pub is_none : {X : Type 0} {o : Option X} (x : X) → o ≡ None → o ≡ Some x → ⊥
 is_none x e f = cc

@@ -1,11 +1,12 @@
 -- Numbers of 64 bits have bytes of their own.
 use Rattle.std.specs.Prelude.{All, zero, suc}
-use Rattle.std.specs.Int.{w64, to_le_bytes, from_le_bytes, byte_at, bytes_low_first}
+use Rattle.std.specs.Int.{w32, w64, to_le_bytes, from_le_bytes, byte_at, bytes_low_first}
 use Rattle.std.proofs.lemmas.List.{flat_map_more, get_or_past, get_or-take, length-take}
 use Rattle.std.proofs.lemmas.Bool.{cases_lt}
 use Rattle.std.proofs.lemmas.List.Elements.{All-nil, All-cons, All-append}
 use Rattle.std.proofs.lemmas.Nat.{from_le_bytes-to_le_bytes_8, mod_below}
 use Rattle.std.proofs.Common.{◌≡◌, ◌∙◌, ◌*◌, ◌/◌, ◌<◌, ◌^◌, ℕ, List, [], ◌∷◌, ◌++◌, length, get_or, take, drop, subst, inl, inr, refl, sym, ap, arith, append_assoc, length-append}
+use Rattle.kt_checksum.specs.Checksums.{checksum, sealed}
 use Rattle.kt_node_text.specs.Form.{bytes_of}
 
 le_bytes_injective : (m n : ℕ) → m < 2 ^ 64 → n < 2 ^ 64 → to_le_bytes w64 m ≡ to_le_bytes w64 n → m ≡ n
@@ -62,3 +63,9 @@ word_fits i (suc k) n = All-cons (λ b. b < 2 ^ 8) (byte_at i n) (bytes_low_firs
 pub bytes_fit : (ns : List ℕ) → All (λ b. b < 2 ^ 8) (bytes_of ns)
 bytes_fit [] = All-nil (λ b. b < 2 ^ 8)
 bytes_fit (n ∷ ns) = All-append (λ b. b < 2 ^ 8) (to_le_bytes w64 n) (bytes_of ns) (word_fits 0 8 n) (bytes_fit ns)
+
+-- with the checksum behind them bytes begin as they did
+pub begins_sealed : (bytes text front : List ℕ) → bytes ≡ sealed text → (rest : List ℕ) × (text ≡ front ++ rest) → (rest : List ℕ) × (bytes ≡ front ++ rest)
+begins_sealed bytes text front e h =
+    let sum = to_le_bytes w32 (checksum text) in
+    (h.0 ++ sum, e ∙ (ap (λ (l : List ℕ). l ++ sum) h.1 ∙ append_assoc front h.0 sum))

@@ -1,12 +1,13 @@
 //! Numbers as bytes.
 
-ghost use Rattle.std.specs.Prelude.{◌≡◌, ◌≤◌, ◌<◌, ◌^◌, ◌++◌, ℕ, List, length, take, All, IfOk, OnOk, OnErr, IsErrOf};
+ghost use Rattle.std.specs.Prelude.{◌≡◌, ◌≤◌, ◌<◌, ◌^◌, ◌++◌, ℕ, true, List, length, take, All, IfOk, OnOk, OnErr, IsErrOf};
 ghost use Rattle.std.specs.Int.{w64, to_le_bytes, from_le_bytes};
 ghost use Rattle.kt_checksum.specs.Checksums.{sealed};
-ghost use Rattle.kt_node_text.specs.Form.{bytes_of};
+ghost use Rattle.kt_node_text.specs.Form.{bytes_of, version};
 ghost use Rattle.kt_node_text.specs.declared.fault.LoadFault.TheVariants as fault;
 
 use crate::fault::LoadFault;
+use crate::writing::VERSION;
 use kt_base::Memory;
 use kt_checksum::checksum;
 use std::alloc::Global;
@@ -45,6 +46,16 @@ fn first_number(bytes: &[u8]) -> u64
     u64::from_le_bytes([
         front[0], front[1], front[2], front[3], front[4], front[5], front[6], front[7],
     ])
+}
+
+/// Whether bytes begin with the version of the form.
+pub(crate) fn has_version(bytes: &[u8]) -> bool
+    ensures version { (rest : List ℕ) → bytes.now ≡ to_le_bytes w64 version ++ rest →
+        result ≡ true }
+    ensures begins { result ≡ true →
+        (rest : List ℕ) × (bytes.now ≡ to_le_bytes w64 version ++ rest) }
+{
+    bytes.starts_with(&VERSION.to_le_bytes())
 }
 
 /// The numbers of bytes.

@@ -1,6 +1,6 @@
 //! A node of numbers. What is read may still be written otherwise: the caller compares.
 
-ghost use Rattle.std.specs.Prelude.{◌≡◌, ◌<◌, ◌≤◌, ◌∷◌, ◌++◌, ℕ, List, IfOk, IsErrOf};
+ghost use Rattle.std.specs.Prelude.{◌≡◌, ◌<◌, ◌≤◌, ◌∷◌, ◌++◌, ℕ, List, IfOk, IfErr, IsErrOf};
 ghost use Rattle.kt_process.specs.ProcessStates.{ProcessFits};
 ghost use Rattle.kt_node.specs.declared.reach.Reach.{Reach};
 ghost use Rattle.kt_node.specs.declared.reach.Reaches.{Reaches};
@@ -33,6 +33,7 @@ fn place(numbers: &mut Numbers) -> Result<(usize, ProcNo), LoadFault>
     ensures within { IfOk result (λ x. x.1 < x.0) }
     ensures read { (n p : ℕ) (after : List ℕ) → n ≤ 64 → p < n →
         numbers.old.rest.now ≡ n ∷ p ∷ after → IsRead (n, p) after result numbers.new.rest.now }
+    ensures form { IfErr result (λ f. f ≡ fault.Form) }
 {
     let size = numbers.up_to(64)? as usize;
     let me = numbers.process()?;

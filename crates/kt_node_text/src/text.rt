@@ -1,8 +1,9 @@
 //! A node as bytes, and a node of bytes.
 
 ghost use Rattle.std.specs.Prelude.{◌≡◌, ◌++◌, ℕ, List, IfOk, OnOk, OnErr, IsErrOf};
+ghost use Rattle.std.specs.Int.{w64, to_le_bytes};
 ghost use Rattle.kt_checksum.specs.Checksums.{sealed, DifferInOneByte};
-ghost use Rattle.kt_node_text.specs.Form.{text_of};
+ghost use Rattle.kt_node_text.specs.Form.{version, text_of};
 ghost use Rattle.kt_node_text.specs.Sameness.{IsSound, IsOwn, IsSameState};
 ghost use Rattle.kt_node.specs.Links.{NodeLinks};
 ghost use Rattle.kt_node_text.specs.declared.fault.LoadFault.TheVariants as fault;
@@ -35,8 +36,10 @@ pub fn load(alloc: Global, bytes: &[u8]) -> Result<Node, LoadFault>
     ensures form { IsErrOf result fault.Form → (w : NodeLinks) → IsOwn w →
         bytes.now ≡ text_of w → ⊥ }
 
-    // Memory is asked for only where the bytes have their checksum behind them.
+    // Memory is asked for only where the bytes have their checksum behind them, and begin with the version.
     ensures memory { IsErrOf result fault.Memory → (text : List ℕ) × (bytes.now ≡ sealed text) }
+    ensures version { IsErrOf result fault.Memory →
+        (rest : List ℕ) × (bytes.now ≡ to_le_bytes w64 version ++ rest) }
 
     // A text of which one byte was changed, in one bit or more, is refused.
     ensures changed { (w : NodeLinks) → IsSound w → DifferInOneByte (text_of w) bytes.now →
@@ -45,6 +48,9 @@ pub fn load(alloc: Global, bytes: &[u8]) -> Result<Node, LoadFault>
     let Some(text) = unsealed(bytes) else {
         return Err(LoadFault::Form);
     };
+    if !bytes::has_version(text) {
+        return Err(LoadFault::Form);
+    }
     let numbers = bytes::numbers_of(alloc, text)?;
     let node = reading::node_of(alloc, &numbers)?;
     let again = writing::numbers_of(alloc, &node)?;

@@ -18,7 +18,7 @@ use kt_manager::{Inbox, Item};
 use kt_node::{Manager, Node, Reach, Reaches};
 use kt_process::{Part, Process, Side};
 use kt_spacetime::InstName;
-use kt_tables::Tables;
+use kt_tables::{LabelPairs, Tables};
 use std::alloc::Global;
 
 /// The version of the form.
@@ -55,6 +55,15 @@ fn put_marks(out: &mut Vec<u64>, marks: &[usize]) -> Result<(), Memory>
     Ok(())
 }
 
+/// Adds a process and a label.
+fn put_pair(out: &mut Vec<u64>, pair: (ProcNo, Label)) -> Result<(), Memory>
+    ensures numbers { OnOk result (out.new.items ≡ out.old.items ++ of_pair pair) }
+    ensures range { IsPair pair }
+{
+    out.extend_from_slice(&[u64::from(pair.0.get()), pair.1.get()])?;
+    Ok(())
+}
+
 /// Adds pairs of a process and a label.
 fn put_pairs(out: &mut Vec<u64>, pairs: &[(ProcNo, Label)]) -> Result<(), Memory>
     ensures numbers { OnOk result (out.new.items ≡ out.old.items ++ counted of_pair pairs.now) }
@@ -62,7 +71,19 @@ fn put_pairs(out: &mut Vec<u64>, pairs: &[(ProcNo, Label)]) -> Result<(), Memory
 {
     out.push(pairs.len() as u64)?;
     for pair in pairs {
-        out.extend_from_slice(&[u64::from(pair.0.get()), pair.1.get()])?;
+        put_pair(out, *pair)?;
+    }
+    Ok(())
+}
+
+/// Adds the pairs of a table.
+fn put_table(out: &mut Vec<u64>, pairs: LabelPairs) -> Result<(), Memory>
+    ensures numbers { OnOk result (out.new.items ≡ out.old.items ++ counted of_pair pairs.entry) }
+    ensures range { OnOk result (All IsPair pairs.entry) }
+{
+    out.push(pairs.left() as u64)?;
+    for pair in pairs {
+        put_pair(out, pair)?;
     }
     Ok(())
 }
@@ -72,13 +93,13 @@ fn put_tables(out: &mut Vec<u64>, tables: &Tables) -> Result<(), Memory>
     ensures numbers { OnOk result (out.new.items ≡ out.old.items ++ of_tables tables.now) }
     ensures range { OnOk result (IsState tables.now) }
 {
-    let lists = tables.lists();
-    put_pairs(out, lists.last_rcvd)?;
-    put_pairs(out, lists.first_sent)?;
-    put_pairs(out, lists.kept_rcvd)?;
-    put_pairs(out, lists.kept_sent)?;
-    put_pairs(out, lists.last_sent)?;
-    put_pairs(out, lists.last_out)
+    let pairs = tables.pairs();
+    put_table(out, pairs.last_rcvd)?;
+    put_table(out, pairs.first_sent)?;
+    put_table(out, pairs.kept_rcvd)?;
+    put_table(out, pairs.kept_sent)?;
+    put_table(out, pairs.last_sent)?;
+    put_table(out, pairs.last_out)
 }
 
 /// Adds a tag and a part in an instance.

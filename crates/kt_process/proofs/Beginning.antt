@@ -1,17 +1,14 @@
 -- A process that is to begin an instance, as the machine has it.
-use Rattle.std.proofs.Common.{◌≡◌, ℕ, zero, suc, ◌+◌, ◌<◌, ◌≤◌, Bool, true, false, List, [], ◌∷◌, ◌++◌, length, refl, arith, sym, ap, subst, ◌∙◌}
+use Rattle.std.proofs.Common.{◌≡◌, ℕ, ◌≤◌, Bool, true, false, List, [], ◌∷◌, ◌++◌, refl, arith, sym, ap, ◌∙◌}
 use Rattle.std.specs.Prelude.{Option, Some, None, ◌==◌, ◌&&◌, not, if◌then◌else◌}
 use Rattle.std.proofs.lemmas.Bool.Decides.{nat_tests}
-use Rattle.kt_base.specs.Sets.{has}
-use Rattle.kt_base.specs.declared.words.Cause.{Cause}
-use Rattle.kt_base.specs.declared.words.Cause.TheVariants.{Busy, Down, NoSave}
+use Rattle.kt_base.specs.declared.words.Cause.TheVariants.{Busy}
 use Rattle.kt_base.specs.declared.words.Kind.TheVariants as kind
 use Rattle.kt_base.specs.declared.words.Standing.{Standing}
 use Rattle.kt_tables.specs.Calls.{Call, on_tentative}
 use Rattle.kt_tables.specs.Standing.{TablesStandFor}
 use Rattle.kt_tables.specs.States.{State}
 use Rattle.kt_process.specs.Joins.{Joins}
-use Rattle.kt_process.specs.PartRules.{way_on, way_alone}
 use Rattle.kt_process.specs.Parts.{Part}
 use Rattle.kt_process.specs.declared.actions.Action.{Action}
 use Rattle.kt_process.specs.declared.actions.Action.TheVariants.{Nothing, Refuse, Join, Reply, Settle}
@@ -22,13 +19,13 @@ use Rattle.kt_process.specs.RollbackRules as roll
 use Rattle.kt_process.specs.RollbackActions as roll_actions
 use Rattle.kt_process.specs.Notes.{note_of}
 use Rattle.kt_process.specs.RollingSides.{RollSide}
-use Rattle.kt_machine.specs.Seen.{SeenPart, no_part, SeenProcess}
+use Rattle.kt_machine.specs.Seen.{SeenPart, SeenProcess}
 use Rattle.kt_machine.specs.SeenJoining.{no_note, new_part}
 use Rattle.kt_machine.specs.CallTests.{is_asked_in_checkpoint, is_asked_in_rollback}
 use Rattle.kt_process.specs.ProcessStates.{ProcessState, part_of_side, inst_of, IsNumbered}
 use Rattle.kt_process.specs.declared.side.Side.{Side}
 use Rattle.kt_process.specs.declared.side.Side.TheVariants as side
-use Rattle.kt_process.specs.Shown.{IsSeenAs, BeginsAs, IsProcessJoined, begin_cause, mark_of, no_mark, inst_shown, part_as, goes_on, joined_as}
+use Rattle.kt_process.specs.Shown.{IsSeenAs, BeginsAs, IsProcessJoined, begin_cause, mark_of, no_mark, inst_shown, part_as, goes_on}
 use Rattle.kt_process.proofs.Cohorts.{made_part}
 
 pub is_some : (n : ℕ) → 1 ≤ n → (n == 0) ≡ false

@@ -1,5 +1,5 @@
 -- Whom a process asks that joins: a part that was made of a cohort is the one that the machine makes.
-use Rattle.std.proofs.Common.{◌≡◌, ℕ, zero, suc, ◌+◌, ◌<◌, ◌≤◌, Bool, true, false, List, [], ◌∷◌, length, get_or, refl, arith, sym, ap, subst, ◌∙◌}
+use Rattle.std.proofs.Common.{◌≡◌, ℕ, zero, suc, ◌+◌, ◌<◌, ◌≤◌, Bool, true, false, List, [], ◌∷◌, length, get_or, refl, arith, sym, ap, ◌∙◌}
 use Rattle.std.specs.Prelude.{Option, ◌==◌, ◌||◌, ◌-◌, if◌then◌else◌, Contains}
 use Rattle.std.proofs.Math.Path.{fun_ext}
 use Rattle.std.proofs.lemmas.Bool.Decides.{nat_tests}
@@ -8,7 +8,6 @@ use Rattle.kt_tables.specs.Peers.{IsCohort, count_peers}
 use Rattle.kt_process.specs.Asks.{is_asked_in}
 use Rattle.kt_process.specs.Joins.{IsJoin}
 use Rattle.kt_process.specs.Parts.{Part}
-use Rattle.kt_machine.specs.Seen.{SeenPart}
 use Rattle.kt_machine.specs.SeenJoining.{new_part}
 use Rattle.kt_process.specs.Shown.{part_as}
 

@@ -1,11 +1,8 @@
 -- A process that is asked to take part, as the machine has it.
-use Rattle.std.proofs.Common.{◌≡◌, ℕ, zero, suc, ◌+◌, ◌<◌, ◌≤◌, Bool, true, false, List, [], ◌∷◌, ◌++◌, length, refl, arith, sym, ap, subst, ◌∙◌}
-use Rattle.std.specs.Prelude.{Option, Some, None, ◌==◌, ◌&&◌, not, nat_lt, nat_le, if◌then◌else◌, IsTrue, ◌↔◌, Contains}
-use Rattle.std.proofs.Math.Path.{fun_ext}
+use Rattle.std.proofs.Common.{◌≡◌, ℕ, ◌<◌, ◌≤◌, Bool, true, false, List, [], ◌∷◌, ◌++◌, refl, arith, sym, ap, subst, ◌∙◌}
+use Rattle.std.specs.Prelude.{Option, Some, None, ◌==◌, ◌&&◌, not, nat_lt, nat_le, if◌then◌else◌}
 use Rattle.std.proofs.lemmas.Bool.Decides.{nat_tests}
-use Rattle.kt_base.specs.Sets.{has}
-use Rattle.kt_base.specs.declared.words.Cause.{Cause}
-use Rattle.kt_base.specs.declared.words.Cause.TheVariants.{Busy, Down, NoSave}
+use Rattle.kt_base.specs.declared.words.Cause.TheVariants.{Busy}
 use Rattle.kt_base.specs.declared.words.Kind.TheVariants as kind
 use Rattle.kt_base.specs.declared.words.Standing.{Standing}
 use Rattle.kt_meaning.specs.Past.{at_one}
@@ -34,7 +31,7 @@ use Rattle.kt_machine.specs.CallTests.{must_take, must_roll}
 use Rattle.kt_process.specs.ProcessStates.{ProcessState, part_of_side, inst_of, is_ready, IsNumbered}
 use Rattle.kt_process.specs.declared.side.Side.{Side}
 use Rattle.kt_process.specs.declared.side.Side.TheVariants as side
-use Rattle.kt_process.specs.Shown.{IsSeenAs, part_shown, HearsAs, answer_as, answer_by, noted_as, mark_of, no_mark, inst_shown, part_as}
+use Rattle.kt_process.specs.Shown.{IsSeenAs, part_shown, HearsAs, answer_as, noted_as, mark_of, no_mark, inst_shown, part_as}
 use Rattle.kt_process.proofs.Beginning.{is_some, joined_save_as, joined_roll_as}
 
 lt_true : (a b : ℕ) → a < b → nat_lt a b ≡ true

@@ -4,5 +4,6 @@ pub mod Hearing
 pub mod Targets
 pub mod CheckpointRulings
 pub mod NoteLists
+pub mod NotePairs
 pub mod NoteTests
 pub mod RollbackRulings

@@ -5,9 +5,8 @@ use Rattle.std.proofs.lemmas.Bool.{cases_lt, cases_eq}
 use Rattle.std.proofs.lemmas.Bool.Decides.{nat_tests}
 use Rattle.std.proofs.lemmas.List.{at_drop_more, at_drop_all}
 use Rattle.std.proofs.Math.Path.{fun_ext}
-use Rattle.kt_tables.specs.Walks.{place_of, stands_at}
-use Rattle.kt_tables.proofs.Pairs.{Pairs, put_pair, put_less, put_same, put_more, insert_at}
-use Rattle.kt_process.specs.Notes.{Noted, find_note, note_of, no_note, with_note, AreNotes}
+use Rattle.kt_process.specs.Notes.{Noted, find_note, note_of, no_note, with_note, AreNotes, place_of, stands_at}
+use Rattle.kt_process.proofs.NotePairs.{Pairs, put_pair, put_less, put_same, put_more, insert_at}
 
 find_same : (pair : ℕ × ℕ) (ps : Pairs) (q : ℕ) → pair.0 ≡ q → find_note (pair ∷ ps) q ≡ Some pair.1
 unfolding find_note

@@ -1,8 +1,8 @@
 -- A walk along pairs that tests whether they are notes.
 use Rattle.std.proofs.Common.{◌≡◌, ℕ, ◌+◌, ◌<◌, ◌≤◌, ◌∷◌, length, get_or, drop, sym, ap, subst, ◌∙◌}
 use Rattle.std.proofs.lemmas.List.{at_drop_more, at_drop_all}
-use Rattle.kt_tables.proofs.Pairs.{Pairs}
 use Rattle.kt_process.specs.Notes.{AreNotes}
+use Rattle.kt_process.proofs.NotePairs.{Pairs}
 
 -- the pairs are notes exactly if the rest is
 pub record IsAsRest (low n i : ℕ) (ps : Pairs) : Type 0 where

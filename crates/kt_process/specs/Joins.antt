@@ -5,7 +5,7 @@ use Rattle.kt_process.specs.Asks.{AreRisingAsks, is_asked_in}
 use Rattle.kt_process.specs.PartRules.{way_on}
 use Rattle.kt_process.specs.Parts.{Part}
 use Rattle.kt_process.specs.declared.actions.Action.{Action}
-use Rattle.kt_process.specs.declared.actions.Action.TheVariants.{Nothing, Refuse, Join, Reply, Settle}
+use Rattle.kt_process.specs.declared.actions.Action.TheVariants.{Join}
 
 -- it awaits a reply to each ask, and has heard of nobody unwilling
 pub record IsNewPart (k : ℕ) (from : Option ℕ) (asks : List (ℕ × ℕ)) (part : Part) : Type 0 where

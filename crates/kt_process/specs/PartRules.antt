@@ -4,12 +4,13 @@ use Rattle.kt_base.specs.declared.words.Cause.TheVariants.{Busy}
 use Rattle.kt_process.specs.Parts.{Part}
 use Rattle.kt_process.specs.declared.actions.Action.{Action}
 use Rattle.kt_process.specs.declared.actions.Action.TheVariants.{Nothing, Reply, Settle}
+use Rattle.kt_process.specs.declared.actions.AskReply.{AskReply}
 use Rattle.kt_process.specs.declared.actions.Then.{Then}
 use Rattle.kt_process.specs.declared.actions.Then.TheVariants.{Wait, Answer, Commit}
 
 -- who is in an instance is willing in this one, and busy for any other
-abbrev pub reply_in : ℕ → ℕ → ℕ → Action
-reply_in current inst to = if current == inst then Reply to true None else Reply to false (Some (Busy current))
+abbrev pub reply_in : ℕ → ℕ → AskReply
+reply_in current inst = if current == inst then record { willing = true; cause = None } else record { willing = false; cause = Some (Busy current) }
 
 -- who awaits nobody answers its parent willing, or commits
 abbrev pub way_alone : Option ℕ → Then

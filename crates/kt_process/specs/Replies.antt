@@ -1,7 +1,7 @@
 -- A reply to the process that asked.
 use Rattle.std.specs.Prelude.{◌≡◌, ℕ}
 use Rattle.kt_process.specs.declared.actions.Action.{Action}
-use Rattle.kt_process.specs.declared.actions.Action.TheVariants.{Nothing, Refuse, Join, Reply, Settle}
+use Rattle.kt_process.specs.declared.actions.Action.TheVariants.{Reply}
 
 -- it replies to the asker, whatever
 abbrev pub IsReplyTo : ℕ → Action → Type 0

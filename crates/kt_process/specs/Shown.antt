@@ -14,7 +14,7 @@ use Rattle.kt_process.specs.Answers.{Answer, replies, joins}
 use Rattle.kt_process.specs.PartRules.{way_alone}
 use Rattle.kt_process.specs.Parts.{Part}
 use Rattle.kt_process.specs.declared.actions.Action.{Action}
-use Rattle.kt_process.specs.declared.actions.Action.TheVariants.{Nothing, Refuse, Join, Reply, Settle}
+use Rattle.kt_process.specs.declared.actions.Action.TheVariants.{Refuse, Join, Reply}
 use Rattle.kt_process.specs.declared.actions.Then.{Then}
 use Rattle.kt_process.specs.declared.actions.Then.TheVariants.{Wait}
 use Rattle.kt_process.specs.Notes.{note_of}

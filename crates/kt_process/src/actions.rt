@@ -42,37 +42,53 @@ pub enum Then {
     Commit,
 }
 
-impl Action {
-    /// A willing reply.
-    pub fn willing(to: ProcNo) -> Action
-        ensures { result ≡ Action.Reply to true None }
+/// What a process replies to an ask by which it does not join: a cause stands where that makes a row.
+#[derive(Clone, Copy)]
+pub struct AskReply {
+    pub willing: bool,
+    pub cause: Option<Cause>,
+}
+
+impl AskReply {
+    /// It is willing.
+    pub fn willing() -> AskReply
+        ensures { result ≡ record { willing = true; cause = None } }
     {
-        Action::Reply {
-            to,
+        AskReply {
             willing: true,
             cause: None,
         }
     }
 
-    /// An unwilling reply, and why.
-    pub fn unwilling(to: ProcNo, cause: Cause) -> Action
-        ensures { result ≡ Action.Reply to false (Some cause) }
+    /// It is unwilling, and why.
+    pub fn unwilling(cause: Cause) -> AskReply
+        ensures { result ≡ record { willing = false; cause = Some cause } }
     {
-        Action::Reply {
-            to,
+        AskReply {
             willing: false,
             cause: Some(cause),
         }
     }
 
     /// What a process replies that is in an instance already: it is willing in this one, and busy for any other.
-    pub fn reply_in(current: InstNo, inst: InstNo, to: ProcNo) -> Action
-        ensures { result ≡ reply_in current inst to }
+    pub fn in_inst(current: InstNo, inst: InstNo) -> AskReply
+        ensures { result ≡ reply_in current inst }
     {
         if current.get() == inst.get() {
-            Action::willing(to)
+            AskReply::willing()
         } else {
-            Action::unwilling(to, Cause::Busy(current))
+            AskReply::unwilling(Cause::Busy(current))
+        }
+    }
+
+    /// This reply to a process, as what follows.
+    pub fn action(self, to: ProcNo) -> Action
+        ensures { result ≡ Action.Reply to self.willing self.cause }
+    {
+        Action::Reply {
+            to,
+            willing: self.willing,
+            cause: self.cause,
         }
     }
 }

@@ -13,7 +13,7 @@ ghost use Rattle.kt_machine.specs.CallTests.{call_of_decision};
 ghost use Rattle.kt_process.specs.CheckpointRules.{checkpoint_refusal, must_join};
 ghost use Rattle.kt_process.specs.CheckpointActions.{AsksCheckpointCohort, IsCheckpointStart, IsCheckpointAnswer};
 
-use crate::actions::Action;
+use crate::actions::{Action, AskReply};
 use crate::asks::Asks;
 use crate::part::Part as Side;
 use kt_base::{Cause, InstNo, Label, Memory, ProcNo, Standing};
@@ -92,11 +92,10 @@ pub(crate) fn answer(
     from: ProcNo,
     inst: InstNo,
     label: Label,
-) -> Option<Action>
+) -> Option<AskReply>
     requires from { from < tables.now.processes }
-    ensures rule { IfSome result (λ action. (calls : List Call) → TablesStandFor tables.now calls → IsCheckpointAnswer calls standing inst from label None action) }
-    ensures counts { IfSome result (λ action. counts_of action ≡ one_reply) }
-    ensures replies { IfSome result (λ action. IsReplyTo from action) }
+    ensures rule { IfSome result (λ reply. (calls : List Call) → TablesStandFor tables.now calls →
+        IsCheckpointAnswer calls standing inst from label None (Action.Reply from reply.willing reply.cause)) }
 
     // Where it joins, nothing forbids that.
     ensures joins { IfNone result (checkpoint_refusal standing.in_inst standing.up standing.able ≡ None) }
@@ -105,13 +104,13 @@ pub(crate) fn answer(
     ensures must { IfNone result ((calls : List Call) → TablesStandFor tables.now calls → must_join calls from label ≡ true) }
 {
     if let Some(current) = standing.in_inst {
-        return Some(Action::reply_in(current, inst, from));
+        return Some(AskReply::in_inst(current, inst));
     }
     if !tables.must_take(from, label) {
-        return Some(Action::willing(from));
+        return Some(AskReply::willing());
     }
     if let Some(cause) = refusal(standing) {
-        return Some(Action::unwilling(from, cause));
+        return Some(AskReply::unwilling(cause));
     }
     None
 }
@@ -149,8 +148,8 @@ pub fn on_ask(
     ensures asked { IfOk result (λ r. IfSome r.0 (λ side. (q : ℕ) → has side.asked q ≡ true → has_one tables.old.last_rcvd q ≡ true)) }
     ensures last_out { tables.new.last_out ≡ tables.old.last_out }
 {
-    if let Some(action) = answer(tables, standing, from, inst, label) {
-        return Ok((None, action));
+    if let Some(reply) = answer(tables, standing, from, inst, label) {
+        return Ok((None, reply.action(from)));
     }
     let (side, action) = join(tables, inst, Some(from))?;
     Ok((Some(side), action))

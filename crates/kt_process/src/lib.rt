@@ -17,7 +17,7 @@ pub mod rollback;
 mod rolling;
 mod side;
 
-pub use actions::{Action, Then};
+pub use actions::{Action, AskReply, Then};
 pub use asks::Asks;
 pub use part::Part;
 pub use process::Process;

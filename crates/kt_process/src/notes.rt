@@ -1,8 +1,7 @@
 //! The labels that a process notes of those that asked it.
 
 ghost use Rattle.std.specs.Prelude.{◌≡◌, ◌<◌, ◌≤◌, ◌↔◌, length, IsTrue, IfSome, IfNone, IfOk};
-ghost use Rattle.kt_process.specs.Notes.{note_of, no_note, with_note, AreNotes};
-ghost use Rattle.kt_tables.specs.Walks.{place_of, stands_at};
+ghost use Rattle.kt_process.specs.Notes.{note_of, no_note, with_note, AreNotes, place_of, stands_at};
 
 use kt_base::{Label, Memory, ProcNo};
 use std::alloc::Global;

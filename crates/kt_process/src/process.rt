@@ -6,7 +6,6 @@ ghost use Rattle.kt_base.specs.Sets.{has};
 ghost use Rattle.kt_base.specs.declared.words.Kind.TheVariants as kind;
 ghost use Rattle.kt_tables.specs.Calls.{Call, sent, received, on_tentative, Speaks};
 ghost use Rattle.kt_tables.specs.Standing.{TablesStandFor, CanReceive};
-ghost use Rattle.kt_process.specs.Replies.{IsReplyTo};
 ghost use Rattle.kt_process.specs.PartRules.{after_reply, settle_action};
 ghost use Rattle.kt_process.specs.Notes.{note_of};
 ghost use Rattle.kt_process.specs.ProcessStates.{ProcessState, part_of_side, is_saving, is_ready, inst_of, asked_of, IsNear, IsNumbered, SideFits, ProcessFits};
@@ -14,7 +13,7 @@ ghost use Rattle.kt_process.specs.Turns.{reply_of, HasPartners, IsTold, joins_by
 ghost use Rattle.kt_machine.specs.Seen.{SeenProcess};
 ghost use Rattle.kt_process.specs.Shown.{IsSeenAs, BeginsAs, HearsAs, counted_as, closed_as, mark_of, no_mark, inst_shown};
 
-use crate::actions::Action;
+use crate::actions::{Action, AskReply};
 use crate::part::Part;
 use crate::side::{Saving, Side};
 use kt_base::{InstNo, Kind, Label, Labels, Memory, ProcNo, ProcSet, Standing, members_in_range};
@@ -315,16 +314,17 @@ impl Process {
 
     /// Its reply to an ask to take part in a checkpoint that does not make it join; None where it joins.
     #[inline(always)]
-    pub fn answer_to_save(
+    pub fn reply_to_save(
         &self,
         able: bool,
         from: ProcNo,
         inst: InstNo,
         label: Label,
-    ) -> Option<Action>
+    ) -> Option<AskReply>
         requires { from < self.now.tables.processes }
-        ensures replies { IfSome result (λ action. IsReplyTo from action) }
-        ensures shows { IfSome result (λ action. (y : SeenProcess) (marks : ℕ → ℕ) → IsSeenAs self.now y → HearsAs kind.Checkpoint able self.now.tables.processes from inst label marks y self.now action) }
+        ensures shows { IfSome result (λ reply. (y : SeenProcess) (marks : ℕ → ℕ) → IsSeenAs self.now y →
+            HearsAs kind.Checkpoint able self.now.tables.processes from inst label marks y self.now
+            (Action.Reply from reply.willing reply.cause)) }
         ensures none { IfNone result (joins_by self.now kind.Checkpoint able from label ≡ true) }
     {
         crate::checkpoint::answer(&self.tables, self.standing(able), from, inst, label)

@@ -14,7 +14,7 @@ ghost use Rattle.kt_process.specs.RollingSides.{part_of, HasNoteRoom, IsLeft};
 ghost use Rattle.kt_process.specs.RollbackRules.{rollback_calls_of_decision, is_in};
 ghost use Rattle.kt_process.specs.RollbackActions.{AsksRollbackCohort, IsRollbackStart, IsRollbackAnswer};
 
-use crate::actions::Action;
+use crate::actions::{Action, AskReply};
 use crate::asks::Asks;
 use crate::notes::Notes;
 use crate::part::Part;
@@ -96,10 +96,10 @@ fn answer(
     ensures asked { IfOk result (λ r. IfSome r.0 (λ side. (q : ℕ) → has side.part.asked q ≡ true → has_one tables.now.first_sent q ≡ true)) }
 {
     if let Some(current) = standing.in_inst {
-        return Ok((None, Action::reply_in(current, inst, from)));
+        return Ok((None, AskReply::in_inst(current, inst).action(from)));
     }
     if !tables.must_roll(from, label) {
-        return Ok((None, Action::willing(from)));
+        return Ok((None, AskReply::willing().action(from)));
     }
     let (mut side, action) = join(tables, inst, Some(from))?;
     side.note_if(true, from, label);

@@ -9,7 +9,7 @@ use Rattle.kt_fifo.specs.Counts.{count_first, count_pairs, waits, busy_pairs, Is
 use Rattle.kt_fifo.specs.Queues.{has_parcel}
 use Rattle.kt_fifo.proofs.Counting.{below_is, count_is}
 use Rattle.kt_process.specs.ProcessStates.{is_ready}
-use Rattle.kt_system.specs.Systems.{Whole, state_of}
+use Rattle.kt_system.specs.Systems.{Whole, state_of, held_in}
 use Rattle.kt_system.specs.Reads.{can_take}
 use Rattle.kt_system.specs.Takes.{is_held}
 use Rattle.kt_system.specs.Counts.{takes_in, IsTakeAt}
@@ -27,13 +27,13 @@ and_none false b e = refl
 pub sent_alone : (w : Whole) (at : ℕ) → ((from : ℕ) → is_held w at from ≡ false) → (from : ℕ) → waits w.channels at from ≡ can_take w at from
 sent_alone w at none from = sym (can_take_either w at from ∙ or_none (waits w.channels at from) (is_held w at from) (none from))
 
-pub none_held : (w : Whole) → ((p q : ℕ) → channel w.held p q ≡ []) → (at from : ℕ) → is_held w at from ≡ false
-none_held w none at from = and_none (not (is_ready (state_of w at).side)) (has_parcel (channel w.held from at)) (ap has_parcel (none from at))
+pub none_held : (w : Whole) → ((p q : ℕ) → held_in w p q ≡ []) → (at from : ℕ) → is_held w at from ≡ false
+none_held w none at from = and_none (not (is_ready (state_of w at).side)) (has_parcel (held_in w from at)) (ap has_parcel (none from at))
 
 pub same_first : (f g : ℕ → Bool) (n : ℕ) → ((q : ℕ) → f q ≡ g q) → count_first f n ≡ count_first g n
 same_first f g n same = ap (λ (h : ℕ → Bool). count_first h n) (fun_ext same)
 
-pub same_tests : (w : Whole) → ((p q : ℕ) → channel w.held p q ≡ []) → waits w.channels ≡ can_take w
+pub same_tests : (w : Whole) → ((p q : ℕ) → held_in w p q ≡ []) → waits w.channels ≡ can_take w
 same_tests w none = fun_ext (λ at. fun_ext (λ from. sent_alone w at (none_held w none at) from))
 
 -- as many are counted in channels
@@ -45,12 +45,12 @@ pub counted_all : (w : Whole) (at set : ℕ) → w.size ≤ 64 → ((from : ℕ)
 counted_all w at set few takes within = count_is set (can_take w at) w.size takes few
     (λ q past. false_from_ne_true _ (λ e. let l = within q (takes q ∙ e) in omega (arith, l, past)))
 
-pub takes_alone : (w : Whole) → w.channels.processes ≡ w.size → ((p q : ℕ) → channel w.held p q ≡ []) → busy_pairs w.channels ≡ takes_in w
+pub takes_alone : (w : Whole) → w.channels.processes ≡ w.size → ((p q : ℕ) → held_in w p q ≡ []) → busy_pairs w.channels ≡ takes_in w
 takes_alone w size none =
     ap (λ (f : ℕ → ℕ → Bool). count_pairs f w.channels.processes w.channels.processes) (same_tests w none)
     ∙ ap (λ (n : ℕ). count_pairs (can_take w) n n) size
 
-pub take_alone : (w : Whole) (at from place : ℕ) → w.channels.processes ≡ w.size → ((p q : ℕ) → channel w.held p q ≡ []) → IsPairAt w.channels at from place → IsTakeAt w at from place
+pub take_alone : (w : Whole) (at from place : ℕ) → w.channels.processes ≡ w.size → ((p q : ℕ) → held_in w p q ≡ []) → IsPairAt w.channels at from place → IsTakeAt w at from place
 take_alone w at from place size none h =
     let low = h.receiver in
     let below = h.sender in
@@ -62,7 +62,7 @@ take_alone w at from place size none h =
           ∙ ap (λ (n : ℕ). count_pairs (can_take w) n at + count_first (can_take w at) from) size) ∙ h.before;
     }
 
-pub takes_at : (w : Whole) (place : ℕ) → w.channels.processes ≡ w.size → ((p q : ℕ) → channel w.held p q ≡ []) → (o : Option (ℕ × ℕ)) → IfSome o (λ pair. IsPairAt w.channels pair.0 pair.1 place) → IfSome o (λ take. IsTakeAt w take.0 take.1 place)
+pub takes_at : (w : Whole) (place : ℕ) → w.channels.processes ≡ w.size → ((p q : ℕ) → held_in w p q ≡ []) → (o : Option (ℕ × ℕ)) → IfSome o (λ pair. IsPairAt w.channels pair.0 pair.1 place) → IfSome o (λ take. IsTakeAt w take.0 take.1 place)
 takes_at w place size none None h = tt
 takes_at w place size none (Some x) h = take_alone w x.0 x.1 place size none h
 

@@ -5,14 +5,15 @@ use Rattle.std.proofs.Common.{◌≡◌, ◌<◌, ◌≤◌, ℕ, Bool, true, fa
 use Rattle.std.proofs.lemmas.Bool.{cases_lt, cases_eq, ltb-true, or_cases, or_left, or_right, and_from, and_parts, false_from_ne_true}
 use Rattle.kt_base.specs.Sets.{has}
 use Rattle.kt_fifo.specs.Channels.{ChannelLists, channel}
-use Rattle.kt_fifo.specs.Queues.{Queue, no_queue, has_parcel}
+use Rattle.kt_fifo.specs.Queues.{has_parcel}
 use Rattle.kt_fifo.specs.declared.parcels.Parcel.{Parcel}
+use Rattle.kt_machine.specs.Seen.{SeenLists}
 use Rattle.kt_process.specs.ProcessStates.{is_ready}
-use Rattle.kt_system.specs.Systems.{Whole, state_of}
+use Rattle.kt_system.specs.Systems.{Whole, state_of, held_in}
 use Rattle.kt_system.specs.Reads.{next_parcel, can_take, IsNextTake, HasNoTake}
 use Rattle.kt_system.specs.Takes.{is_sent, is_held, WithSome, IsFirstNumber, lesser}
 
-both_tests : (a b : Bool) (x : Queue) → has_parcel (if a && b then x else no_queue).parcels ≡ true → (a ≡ true) × (b ≡ true)
+both_tests : (a b : Bool) (x : List Parcel) → has_parcel (if a && b then x else []) ≡ true → (a ≡ true) × (b ≡ true)
 both_tests true true x e = (refl, refl)
 both_tests true false x e = absurd (cc)
 both_tests false b x e = absurd (cc)
@@ -46,7 +47,7 @@ taken_if false (y ∷ ys) (x ∷ xs) = refl
 -- what can be taken is in the channel, or held
 pub can_take_either : (w : Whole) (at from : ℕ) → can_take w at from ≡ (is_sent w at from || is_held w at from)
 unfolding next_parcel
-can_take_either w at from = taken_if (is_ready (state_of w at).side) (channel w.held from at) (channel w.channels from at)
+can_take_either w at from = taken_if (is_ready (state_of w at).side) (held_in w from at) (channel w.channels from at)
 
 -- of those whose parcels are in channels, and of those whose parcels are held
 pub joined_is : (w : Whole) (at q sent held all : ℕ) → has all q ≡ (has sent q || has held q) → has sent q ≡ is_sent w at q → has held q ≡ is_held w at q → has all q ≡ can_take w at q
@@ -115,14 +116,14 @@ pub first_receiver : (w seen : Whole) (set : ℕ) (r : Option ℕ) → w ≡ see
     IfSome r (λ p. has set p ≡ true) → IfSome r (λ p. (q : ℕ) → q < p → has set q ≡ false) → IfNone r ((q : ℕ) → has set q ≡ false) → IsFirstNumber (WithSome (is_sent seen)) r
 first_receiver w seen set r v some none m l n = subst (λ (s : Whole). IsFirstNumber (WithSome (is_sent s)) r) v (receiver_first w set r some none m l n)
 
-pub held_for : (w : Whole) (at from : ℕ) → is_ready (state_of w at).side ≡ false → has_parcel (channel w.held from at) ≡ true → is_held w at from ≡ true
+pub held_for : (w : Whole) (at from : ℕ) → is_ready (state_of w at).side ≡ false → has_parcel (held_in w from at) ≡ true → is_held w at from ≡ true
 held_for w at from r e = and_from _ _ (ap not r) e
 
-pub not_held : (w : Whole) (at : ℕ) → ((from : ℕ) → channel w.held from at ≡ []) → ¬ WithSome (is_held w) at
-not_held w at e s = let t = and_parts (not (is_ready (state_of w at).side)) (has_parcel (channel w.held s.0 at)) s.1 in cc (t.1, ap has_parcel (e s.0))
+pub not_held : (w : Whole) (at : ℕ) → ((from : ℕ) → held_in w from at ≡ []) → ¬ WithSome (is_held w) at
+not_held w at e s = let t = and_parts (not (is_ready (state_of w at).side)) (has_parcel (held_in w s.0 at)) s.1 in cc (t.1, ap has_parcel (e s.0))
 
 pub not_held_if_ready : (w : Whole) (at : ℕ) → is_ready (state_of w at).side ≡ true → ¬ WithSome (is_held w) at
-not_held_if_ready w at r s = let t = and_parts (not (is_ready (state_of w at).side)) (has_parcel (channel w.held s.0 at)) s.1 in cc (t.0, ap not r)
+not_held_if_ready w at r s = let t = and_parts (not (is_ready (state_of w at).side)) (has_parcel (held_in w s.0 at)) s.1 in cc (t.0, ap not r)
 
 -- the least process that can take a parcel, with the least from which it can
 pub next_take_is : (w : Whole) (at from : ℕ) → at < w.size → from < w.size → IsFirstNumber (WithSome (can_take w)) (Some at) → IsFirstNumber (λ q. can_take w at q ≡ true) (Some from) → IsNextTake w at from
@@ -146,22 +147,22 @@ pub no_take_is : (w : Whole) → IsFirstNumber (WithSome (can_take w)) None → 
 no_take_is w x = record { none = λ at from _ _. false_from_ne_true _ (λ e. x at (from, e)) }
 
 -- where no parcel is in the channel or held, none can be taken
-pub nothing_to_take : (w : Whole) (at from : ℕ) → channel w.channels from at ≡ [] → channel w.held from at ≡ [] → can_take w at from ≡ false
+pub nothing_to_take : (w : Whole) (at from : ℕ) → channel w.channels from at ≡ [] → held_in w from at ≡ [] → can_take w at from ≡ false
 nothing_to_take w at from e f = false_from_ne_true _ (λ t. elim (either w at from t) [
   | inl s ↦ cc (s, ap has_parcel e)
-  | inr h ↦ let k = and_parts (not (is_ready (state_of w at).side)) (has_parcel (channel w.held from at)) h in cc (k.1, ap has_parcel f)
+  | inr h ↦ let k = and_parts (not (is_ready (state_of w at).side)) (has_parcel (held_in w from at)) h in cc (k.1, ap has_parcel f)
 ])
 
 -- of those to whom parcels are in channels, and of those for whom some are held
-module _ (channels kept : ChannelLists) (at sent held all : ℕ) (e : has all at ≡ (has sent at || has held at)) where
-  pub some_waits : (has sent at ≡ true → (from : ℕ) × (has_parcel (channel channels from at) ≡ true)) → (has held at ≡ true → (from : ℕ) × (has_parcel (channel kept from at) ≡ true)) → has all at ≡ true
-      → (from : ℕ) × ((has_parcel (channel channels from at) || has_parcel (channel kept from at)) ≡ true)
+module _ (channels : ChannelLists) (kept : SeenLists) (at sent held all : ℕ) (e : has all at ≡ (has sent at || has held at)) where
+  pub some_waits : (has sent at ≡ true → (from : ℕ) × (has_parcel (channel channels from at) ≡ true)) → (has held at ≡ true → (from : ℕ) × (has_parcel (kept from at) ≡ true)) → has all at ≡ true
+      → (from : ℕ) × ((has_parcel (channel channels from at) || has_parcel (kept from at)) ≡ true)
   some_waits f g member = elim (or_cases (has sent at) (has held at) (sym e ∙ member)) [
     | inl s ↦ let t = f s in (t.0, or_left _ _ t.1)
     | inr h ↦ let t = g h in (t.0, or_right _ _ t.1)
   ]
 
-  pub none_waits : (from : ℕ) → (has sent at ≡ false → channel channels from at ≡ []) → (has held at ≡ false → channel kept from at ≡ []) → has all at ≡ false → (channel channels from at ≡ []) × (channel kept from at ≡ [])
+  pub none_waits : (from : ℕ) → (has sent at ≡ false → channel channels from at ≡ []) → (has held at ≡ false → kept from at ≡ []) → has all at ≡ false → (channel channels from at ≡ []) × (kept from at ≡ [])
   none_waits from f g gone = (
     f (false_from_ne_true _ (λ t. let k = or_left (has sent at) (has held at) t in cc (k, e, gone))),
     g (false_from_ne_true _ (λ t. let k = or_right (has sent at) (has held at) t in cc (k, e, gone))),

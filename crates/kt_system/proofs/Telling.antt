@@ -1,6 +1,6 @@
 -- Decisions, put one by one.
-use Rattle.std.specs.Prelude.{◌-◌, ◌==◌, ◌&&◌, not, if◌then◌else◌}
-use Rattle.std.proofs.Common.{◌≡◌, ◌≢◌, ℕ, ◌≤◌, Bool, true, false, [], ◌∷◌, ◌++◌, refl, arith, sym, subst, inl, inr, ◌∙◌}
+use Rattle.std.specs.Prelude.{◌==◌, ◌&&◌, not, if◌then◌else◌}
+use Rattle.std.proofs.Common.{◌≡◌, ◌≢◌, ℕ, Bool, true, false, [], ◌∷◌, ◌++◌, refl, arith, inl, inr}
 use Rattle.std.proofs.Math.Path.{fun_ext}
 use Rattle.std.proofs.lemmas.Bool.{cases_eq}
 use Rattle.std.proofs.lemmas.Bool.Decides.{nat_tests}
@@ -41,12 +41,3 @@ told_all chan p k c set rest none = fun_ext (λ u. fun_ext (λ v. at_test u v (s
     at_test u v a true e = absurd (cc e)
     at_test u v true false e = refl
     at_test u v false false e = refl
-
-pub room_told : (old new : ℕ → ℕ → ℕ) (p n : ℕ) (rest left : ℕ → Bool) → left n ≡ false → ((q : ℕ) → q ≢ n → left q ≡ rest q) → new ≡ at_pair p n (old p n - 1) old →
-    ((q : ℕ) → rest q ≡ true → 1 ≤ old p q) → (q : ℕ) → left q ≡ true → 1 ≤ new p q
-room_told old new p n rest left gone others e h q a = elim (cases_eq q n) [
-  | inl same ↦ let clash : true ≡ false = sym a ∙ (rw (same) gone) in absurd (cc clash)
-  | inr other ↦
-      let k = h q (sym (others q other) ∙ a) in
-      subst (λ (g : ℕ → ℕ → ℕ). 1 ≤ g p q) (sym e) (grind (arith, nat_tests))
-]

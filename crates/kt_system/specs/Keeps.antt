@@ -10,14 +10,8 @@ pub record CanStep (w : Whole) (p q : ℕ) : Type 0 where
   pub other : q < w.size
   pub few : length w.rows.rows + 4 ≤ 2 ^ 24
 
--- a part of a step keeps the number of processes and the log's rows, to which it adds so many at most; and the tallies count
--- what it puts into channels, where these parcels are taken off
-pub record KeepsInPart (most : ℕ) (taken : List Parcel) (old new : Whole) : Type 0 where
-  pub size : new.size ≡ old.size
-  pub grows : LogGrows most old new
-  pub tallies : TalliesPut taken old new
-
--- so does a step, which adds four rows at most; where memory is refused, the system stays the same
+-- a step keeps the number of processes and the log's rows, to which it adds four at most; and the tallies count what it puts
+-- into channels, where these parcels are taken off; where memory is refused, the system stays the same
 pub record KeepsInStep {T E : Type 0} (result : Result T E) (taken : List Parcel) (old new : Whole) : Type 0 where
   pub size : new.size ≡ old.size
   pub err : OnErr result (IsSameSystem new old)

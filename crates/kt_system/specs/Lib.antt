@@ -5,4 +5,9 @@ pub mod Shown
 pub mod Tallies
 pub mod Keeps
 pub mod Counts
-pub mod Kept
+pub mod SentNumbers
+pub mod Carried
+pub mod MessageNumbers
+pub mod SystemNodes
+pub mod CarriedEffects
+pub mod Steps

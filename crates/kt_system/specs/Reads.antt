@@ -9,7 +9,7 @@ use Rattle.kt_process.specs.Parts.{Part}
 use Rattle.kt_process.specs.ProcessStates.{ProcessState, is_ready, inst_of}
 use Rattle.kt_process.specs.Turns.{joins_by}
 use Rattle.kt_system.specs.declared.system.Tally.{Tally}
-use Rattle.kt_system.specs.Systems.{Whole, state_of}
+use Rattle.kt_system.specs.Systems.{Whole, state_of, held_in}
 
 abbrev pub no_tally : Tally
 no_tally = record { asks = 0; replies = 0; decisions = 0 }
@@ -25,7 +25,7 @@ awaited_of (Some part) = part.awaited
 
 -- the first parcel of another process that is held for one, where that is in no rollback
 abbrev pub held_parcel : Whole → ℕ → ℕ → Option Parcel
-held_parcel w at from = if is_ready (state_of w at).side then None else slice_get (channel w.held from at) 0
+held_parcel w at from = if is_ready (state_of w at).side then None else slice_get (held_in w from at) 0
 
 -- the parcel that a process would take next from another one
 unfoldable pub next_parcel : Whole → ℕ → ℕ → Option Parcel
@@ -45,7 +45,7 @@ would_save w at from = option_map_or (saves_by (state_of w at) from) (next_parce
 -- no parcel is in a channel or held, and no process in an instance
 pub record IsQuietSystem (w : Whole) : Type 0 where
   pub channels : (p q : ℕ) → p < w.size → q < w.size → channel w.channels p q ≡ []
-  pub held : (p q : ℕ) → p < w.size → q < w.size → channel w.held p q ≡ []
+  pub held : (p q : ℕ) → p < w.size → q < w.size → held_in w p q ≡ []
   pub outside : (p : ℕ) → p < w.size → inst_of (state_of w p).side ≡ None
 
 -- a process can take a parcel of another one; of all such pairs it is the least, and then the sender is

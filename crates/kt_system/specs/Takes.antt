@@ -3,14 +3,14 @@ use Rattle.std.specs.Prelude.{◌≡◌, ◌<◌, ℕ, Bool, true, not, ◌&&◌
 use Rattle.kt_fifo.specs.Channels.{channel}
 use Rattle.kt_fifo.specs.Queues.{has_parcel}
 use Rattle.kt_process.specs.ProcessStates.{is_ready}
-use Rattle.kt_system.specs.Systems.{Whole, state_of}
+use Rattle.kt_system.specs.Systems.{Whole, state_of, held_in}
 
 -- whether a parcel of another process for one is in the channel, and whether one is held that it can take
 abbrev pub is_sent : Whole → ℕ → ℕ → Bool
 is_sent w at from = has_parcel (channel w.channels from at)
 
 abbrev pub is_held : Whole → ℕ → ℕ → Bool
-is_held w at from = not (is_ready (state_of w at).side) && has_parcel (channel w.held from at)
+is_held w at from = not (is_ready (state_of w at).side) && has_parcel (held_in w from at)
 
 -- a test holds of a process and some other one
 abbrev pub WithSome : (ℕ → ℕ → Bool) → ℕ → Type 0

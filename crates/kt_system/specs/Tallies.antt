@@ -1,11 +1,12 @@
 -- What comes into the channels of a system, and what its tallies count of that.
-use Rattle.std.specs.Prelude.{◌≡◌, ◌<◌, ◌≤◌, ◌+◌, ◌^◌, ◌==◌, ℕ, zero, suc, Bool, false, if◌then◌else◌, List, [], is_some, take, length, count_by}
+use Rattle.std.specs.Prelude.{◌≡◌, ◌<◌, ◌≤◌, ◌+◌, ◌^◌, ◌==◌, ℕ, zero, suc, Bool, false, if◌then◌else◌, List, [], is_some, take, length, count_by, slice_index_or, ◌-◌}
 use Rattle.kt_fifo.specs.Channels.{channel}
 use Rattle.kt_fifo.specs.declared.parcels.Parcel.{Parcel}
 use Rattle.kt_fifo.specs.declared.parcels.Parcel.TheVariants.{App, Ask, Reply, Decide}
 use Rattle.kt_machine.specs.Seen.{SeenLists}
 use Rattle.kt_system.specs.Systems.{Whole}
-use Rattle.kt_system.specs.Reads.{tally_of, held_parcel}
+use Rattle.kt_system.specs.declared.system.Tally.{Tally}
+use Rattle.kt_system.specs.Reads.{tally_of, held_parcel, no_tally}
 
 -- a parcel is an ask of instance k, a reply, or a decision
 abbrev pub is_ask_of : ℕ → Parcel → Bool
@@ -68,11 +69,24 @@ taken_off w at from = if is_some (held_parcel w at from) then [] else front w at
 abbrev pub counted_of : ℕ → ℕ → ℕ → ℕ
 counted_of k count j = if k == j then count else 0
 
+-- what is counted of an instance in a list of tallies
+abbrev pub tally_at : List Tally → ℕ → Tally
+tally_at put inst = slice_index_or put (inst - 1) no_tally
+
+-- in a list of tallies, a count of each instance rises
+pub record HaveRisen (asks replies decisions : ℕ → ℕ) (old new : List Tally) : Type 0 where
+  pub instances : length new ≡ length old
+  pub asked : (j : ℕ) → 0 < j → j ≤ length old → RisesBy (asks j) (tally_at old j).asks (tally_at new j).asks
+  pub replied : (j : ℕ) → 0 < j → j ≤ length old → RisesBy (replies j) (tally_at old j).replies (tally_at new j).replies
+  pub decided : (j : ℕ) → 0 < j → j ≤ length old → RisesBy (decisions j) (tally_at old j).decisions (tally_at new j).decisions
+
 -- so many asks, replies and decisions of instance k are counted
-pub record AreCounted (k more_asks more_replies more_decisions : ℕ) (old new : Whole) : Type 0 where
-  pub size : new.size ≡ old.size
-  pub channels : new.channels ≡ old.channels
-  pub instances : length new.put ≡ length old.put
-  pub asks : (j : ℕ) → 0 < j → j ≤ length old.put → RisesBy (counted_of k more_asks j) (tally_of old j).asks (tally_of new j).asks
-  pub replies : (j : ℕ) → 0 < j → j ≤ length old.put → RisesBy (counted_of k more_replies j) (tally_of old j).replies (tally_of new j).replies
-  pub decisions : (j : ℕ) → 0 < j → j ≤ length old.put → RisesBy (counted_of k more_decisions j) (tally_of old j).decisions (tally_of new j).decisions
+abbrev pub HaveCounted : ℕ → ℕ → ℕ → ℕ → List Tally → List Tally → Type 0
+HaveCounted k asks replies decisions old new = HaveRisen (counted_of k asks) (counted_of k replies) (counted_of k decisions) old new
+
+-- a parcel is counted
+abbrev pub one_if : Bool → ℕ
+one_if b = if b then 1 else 0
+
+abbrev pub CountsOne : Parcel → List Tally → List Tally → Type 0
+CountsOne x old new = HaveRisen (λ k. one_if (is_ask_of k x)) (λ k. one_if (is_reply_of k x)) (λ k. one_if (is_decision_of k x)) old new

@@ -1,16 +1,14 @@
 -- The peers of a table, in a list and in a set, and how many they are.
 use Rattle.std.specs.Prelude.{◌==◌, not, if◌then◌else◌, All, Contains}
 use Rattle.std.specs.List.{list_any}
-use Rattle.std.proofs.Common.{◌≡◌, ◌≢◌, ℕ, zero, suc, ◌+◌, ◌≤◌, ◌<◌, Bool, true, false, List, [], ◌∷◌, ◌++◌, length, get_or, map, take, drop, refl, arith, sym, ap, subst, ◌∙◌, inl, inr, below_more}
-use Rattle.std.proofs.lemmas.Bool.{cases_lt, cases_eq}
+use Rattle.std.proofs.Common.{◌≡◌, ◌≢◌, ℕ, zero, suc, ◌+◌, ◌≤◌, ◌<◌, Bool, true, false, List, [], ◌∷◌, length, get_or, map, refl, arith, sym, ap, subst, ◌∙◌, inl, inr}
+use Rattle.std.proofs.lemmas.Bool.{cases_eq}
 use Rattle.std.proofs.lemmas.Bool.Decides.{nat_tests}
 use Rattle.std.proofs.lemmas.List.Elements.{All-map}
 use Rattle.std.proofs.lemmas.List.Folds.{Any-from_list_any}
-use Rattle.std.proofs.lemmas.List.{length-map, get_or-map, get_or_default, take_more, map-append, ext_get_or}
-use Rattle.kt_base.specs.Sets.{has}
+use Rattle.std.proofs.lemmas.List.{length-map, get_or-map}
 use Rattle.kt_tables.specs.Peers.{find_label, IsTable, count_peers, IsCohort}
-use Rattle.kt_tables.specs.Walks.{place_of, head_label}
-use Rattle.kt_tables.proofs.Pairs.{Pairs, table_lower, find_below, place_less, place_stop, find_same, find_other, find_head}
+use Rattle.kt_tables.proofs.Pairs.{Pairs, find_below, find_same, find_other, above_zero, not_zero}
 
 -- the pairs stand by rising peer
 table_above : (low n : ℕ) (ps : Pairs) (k : ℕ) (d : ℕ × ℕ) → IsTable low n ps → k < length ps → low ≤ (get_or ps k d).0
@@ -19,7 +17,7 @@ table_above low n [] k d h b = absurd (omega arith)
 table_above low n (pair ∷ ps) zero d h b = h.0
 table_above low n (pair ∷ ps) (suc k) d h b = let r = table_above (pair.0 + 1) n ps k d h.3 (omega arith) in omega (arith, h.0)
 
-pub table_rising : (low n : ℕ) (ps : Pairs) (i j : ℕ) (d : ℕ × ℕ) → IsTable low n ps → i < j → j < length ps → (get_or ps i d).0 < (get_or ps j d).0
+table_rising : (low n : ℕ) (ps : Pairs) (i j : ℕ) (d : ℕ × ℕ) → IsTable low n ps → i < j → j < length ps → (get_or ps i d).0 < (get_or ps j d).0
 unfolding IsTable
 table_rising low n [] i j d h a b = absurd (omega arith)
 table_rising low n (pair ∷ ps) i zero d h a b = absurd (omega arith)
@@ -36,7 +34,7 @@ find_at low n (pair ∷ ps) (suc k) d h b =
     rw (find_other pair ps (get_or ps k d).0 (λ e. absurd (omega arith))) (find_at (pair.0 + 1) n ps k d h.3 (omega arith))
 
 -- the label at a place is that of its peer
-find_each : (low n : ℕ) (ps : Pairs) (k : ℕ) (d : ℕ × ℕ) → IsTable low n ps → k < length ps → find_label ps (get_or ps k d).0 ≡ (get_or ps k d).1
+pub find_each : (low n : ℕ) (ps : Pairs) (k : ℕ) (d : ℕ × ℕ) → IsTable low n ps → k < length ps → find_label ps (get_or ps k d).0 ≡ (get_or ps k d).1
 unfolding IsTable
 find_each low n [] k d h b = absurd (omega arith)
 find_each low n (pair ∷ ps) zero d h b = find_same pair ps pair.0 refl
@@ -45,7 +43,7 @@ find_each low n (pair ∷ ps) (suc k) d h b =
     find_other pair ps (get_or ps k d).0 (λ e. absurd (omega arith)) ∙ find_each (pair.0 + 1) n ps k d h.3 (omega arith)
 
 -- a label above 0 stands at a place
-find_in : (ps : Pairs) (q : ℕ) (d : ℕ × ℕ) → 0 < find_label ps q → (k : ℕ) × (k < length ps) × ((get_or ps k d).0 ≡ q)
+pub find_in : (ps : Pairs) (q : ℕ) (d : ℕ × ℕ) → 0 < find_label ps q → (k : ℕ) × (k < length ps) × ((get_or ps k d).0 ≡ q)
 unfolding find_label
 find_in [] q d h = absurd (omega arith)
 find_in (pair ∷ ps) q d h = elim (cases_eq pair.0 q) [
@@ -55,19 +53,6 @@ find_in (pair ∷ ps) q d h = elim (cases_eq pair.0 q) [
 
 abbrev pub beside : (ℕ → ℕ) → ℕ × ℕ → ℕ × ℕ
 beside g pair = (pair.0, g pair.0)
-
--- a table's own labels beside its peers are its pairs
-pub own_labels : (n : ℕ) (ps : Pairs) → IsTable 0 n ps → map (beside (find_label ps)) ps ≡ ps
-own_labels n ps h = ext_get_or (0, 0) (map (beside (find_label ps)) ps) ps (length-map ps (beside (find_label ps))) (λ i b.
-    let i_in : i < length ps = omega (arith, length-map ps (beside (find_label ps))) in
-    get_or-map (beside (find_label ps)) ps i (0, 0) (0, 0) i_in
-    ∙ ap (λ (l : ℕ). let t : ℕ × ℕ = ((get_or ps i (0, 0)).0, l) in t) (find_each 0 n ps i (0, 0) h i_in))
-
-above_zero : (x : ℕ) → not (x == 0) ≡ true → 0 < x
-above_zero x h = grind (arith, nat_tests)
-
-not_zero : (x : ℕ) → 0 < x → not (x == 0) ≡ true
-not_zero x h = grind (arith, nat_tests)
 
 pub cohort_is : (n : ℕ) (ps : Pairs) (g : ℕ → ℕ) → IsTable 0 n ps → IsCohort (map (beside g) ps) (λ q. not (find_label ps q == 0)) g
 cohort_is n ps g h = record {
@@ -93,30 +78,14 @@ cohort_is n ps g h = record {
   );
 }
 
-table_below : (low n : ℕ) (ps : Pairs) (k : ℕ) (d : ℕ × ℕ) → IsTable low n ps → k < length ps → (get_or ps k d).0 < n
+pub table_at : (low n : ℕ) (ps : Pairs) (k : ℕ) (d : ℕ × ℕ) → IsTable low n ps → k < length ps → ((get_or ps k d).0 < n) × (0 < (get_or ps k d).1)
 unfolding IsTable
-table_below low n [] k d h b = absurd (omega arith)
-table_below low n (pair ∷ ps) zero d h b = h.1
-table_below low n (pair ∷ ps) (suc k) d h b = table_below (pair.0 + 1) n ps k d h.3 (omega arith)
+table_at low n [] k d h b = absurd (omega arith)
+table_at low n (pair ∷ ps) zero d h b = (h.1, h.2)
+table_at low n (pair ∷ ps) (suc k) d h b = table_at (pair.0 + 1) n ps k d h.3 (omega arith)
 
 pub cohort_below : (n : ℕ) (ps : Pairs) (g : ℕ → ℕ) → IsTable 0 n ps → All (λ pair. pair.0 < n) (map (beside g) ps)
-cohort_below n ps g h = All-map (λ pair. pair.0 < n) (beside g) ps (λ k d b. table_below 0 n ps k d h b)
-
--- what stands before a peer's place does not matter for that peer and those after it
-pub find_drop : (ps : Pairs) (p q : ℕ) → p ≤ q → find_label (drop (place_of ps p) ps) q ≡ find_label ps q
-find_drop [] p q b = refl
-find_drop (pair ∷ ps) p q b = elim (cases_lt pair.0 p) [
-  | inl less ↦ rw (place_less pair ps p less) (find_drop ps p q b ∙ sym (find_other pair ps q (λ e. absurd (omega arith))))
-  | inr more ↦ rw (place_stop pair ps p more) refl
-]
-
-pub table_drop : (low n : ℕ) (ps : Pairs) (p : ℕ) → IsTable low n ps → IsTable p n (drop (place_of ps p) ps)
-unfolding IsTable
-table_drop low n [] p h = tt
-table_drop low n (pair ∷ ps) p h = elim (cases_lt pair.0 p) [
-  | inl less ↦ rw (place_less pair ps p less) (table_drop (pair.0 + 1) n ps p h.3)
-  | inr more ↦ rw (place_stop pair ps p more) (more, h.1, h.2, h.3)
-]
+cohort_below n ps g h = All-map (λ pair. pair.0 < n) (beside g) ps (λ k d b. (table_at 0 n ps k d h b).0)
 
 count_same : (n : ℕ) (f g : ℕ → Bool) → ((q : ℕ) → q < n → f q ≡ g q) → count_peers n f ≡ count_peers n g
 unfolding count_peers
@@ -160,42 +129,6 @@ count_is low n (pair ∷ ps) h =
     above : (x : ℕ) → 0 < x → not (x == 0) ≡ true
     above x h = grind (arith, nat_tests)
 
--- a walk along a table and another one's pairs side by side, as far as place i
-pub record Walking (ps labels : Pairs) (n i : ℕ) (rest : Pairs) : Type 0 where
-  pub table : IsTable 0 n rest
-  pub ahead : (k : ℕ) → i ≤ k → k < length ps → find_label rest (get_or ps k (0, 0)).0 ≡ find_label labels (get_or ps k (0, 0)).0
-
-pub walking_none : (ps labels : Pairs) (n : ℕ) → IsTable 0 n labels → Walking ps labels n 0 labels
-walking_none ps labels n h = record { table = h; ahead = λ k a b. refl }
-
-at_place : (ps : Pairs) (i : ℕ) (x : ℕ × ℕ) → i < length ps → x ≡ get_or ps i x → x ≡ get_or ps i (0, 0)
-at_place ps i x b r = r ∙ get_or_default ps i x (0, 0) b
-
-pub walking_head : (ps labels : Pairs) (n i : ℕ) (rest : Pairs) (x : ℕ × ℕ) → Walking ps labels n i rest → i < length ps → x ≡ get_or ps i x →
-    head_label (drop (place_of rest x.0) rest) x.0 ≡ find_label labels x.0
-walking_head ps labels n i rest x w b r =
-    let k = at_place ps i x b r in
-    let h = w.ahead i (omega arith) b in
-    sym (find_head x.0 n (drop (place_of rest x.0) rest) (table_drop 0 n rest x.0 w.table))
-    ∙ (find_drop rest x.0 x.0 (omega arith) ∙ subst (λ (t : ℕ × ℕ). find_label rest t.0 ≡ find_label labels t.0) (sym k) h)
-
-pub walking_more : (m : ℕ) (ps labels : Pairs) (n i : ℕ) (rest : Pairs) (x : ℕ × ℕ) → IsTable 0 m ps → Walking ps labels n i rest → i < length ps → x ≡ get_or ps i x →
-    Walking ps labels n (i + 1) (drop (place_of rest x.0) rest)
-walking_more m ps labels n i rest x h w b r =
-    let k = at_place ps i x b r in
-    record {
-      table = table_lower x.0 0 n (drop (place_of rest x.0) rest) (omega arith) (table_drop 0 n rest x.0 w.table);
-      ahead = λ j a c.
-          let rise = table_rising 0 m ps i j (0, 0) h (omega arith) c in
-          let e : x.0 ≡ (get_or ps i (0, 0)).0 = ap (λ (t : ℕ × ℕ). t.0) k in
-          find_drop rest x.0 (get_or ps j (0, 0)).0 (omega arith) ∙ w.ahead j (omega arith) c;
-    }
-
-pub cohort_more : (ps : Pairs) (g : ℕ → ℕ) (i : ℕ) (x : ℕ × ℕ) → i < length ps → x ≡ get_or ps i x →
-    map (beside g) (take (i + 1) ps) ≡ map (beside g) (take i ps) ++ beside g x ∷ []
-cohort_more ps g i x b r =
-    ap (map (beside g)) (take_more ps i x b) ∙ (map-append (beside g) (take i ps) (get_or ps i x ∷ []) ∙ ap (λ (t : ℕ × ℕ). map (beside g) (take i ps) ++ beside g t ∷ []) (sym r))
-
 -- a count is at most what was counted
 pub count_most : (n : ℕ) (f : ℕ → Bool) → count_peers n f ≤ n
 unfolding count_peers
@@ -209,50 +142,3 @@ cohort_passes pairs test label cohort q e =
     let same : f.1.0 ≡ q = grind (arith, nat_tests, f.4) in
     let P : ℕ → Type 0 = λ p. Contains pairs (p, f.1.1) in
     ((cohort.members q f.1.1).0 (subst P same (f.0, f.2, f.3))).0
-
--- a set has exactly the peers of the first i pairs
-pub record Gathers (ps : Pairs) (i set : ℕ) : Type 0 where
-  pub has_each : (k : ℕ) → k < i → has set (get_or ps k (0, 0)).0 ≡ true
-  pub no_other : (q : ℕ) → has set q ≡ true → (k : ℕ) × (k < i) × ((get_or ps k (0, 0)).0 ≡ q)
-
-pub gathers_none : (ps : Pairs) (set : ℕ) → ((q : ℕ) → has set q ≡ false) → Gathers ps 0 set
-gathers_none ps set none = record {
-  has_each = λ k b. absurd (omega arith);
-  no_other = λ q e. absurd (cc (none q, e));
-}
-
-pub gathers_more : (ps : Pairs) (i set more : ℕ) (x : ℕ × ℕ) → Gathers ps i set → i < length ps → x ≡ get_or ps i x →
-    has more x.0 ≡ true → ((q : ℕ) → q ≢ x.0 → has more q ≡ has set q) → Gathers ps (i + 1) more
-gathers_more ps i set more x h b r added others =
-    let here : x.0 ≡ (get_or ps i (0, 0)).0 = ap (λ (t : ℕ × ℕ). t.0) (at_place ps i x b r) in
-    record {
-      has_each = below_more _ _ (λ k c. elim (cases_eq (get_or ps k (0, 0)).0 x.0) [
-        | inl same ↦ ap (has more) same ∙ added
-        | inr other ↦ others _ other ∙ h.has_each k c
-      ]) (ap (has more) (sym here) ∙ added);
-      no_other = λ q e. elim (cases_eq q x.0) [
-        | inl same ↦ (i, omega arith, sym here ∙ sym same)
-        | inr other ↦ let m = h.no_other q (sym (others q other) ∙ e) in (m.0, omega (arith, m.1), m.2)
-      ];
-    }
-
--- the set of all peers with a label
-pub gathers_all : (n : ℕ) (ps : Pairs) (i set : ℕ) → IsTable 0 n ps → Gathers ps i set → i ≤ length ps → length ps ≤ i →
-    (q : ℕ) → has set q ≡ not (find_label ps q == 0)
-gathers_all n ps i set t h most past q = both (has set q) (not (find_label ps q == 0))
-    (λ e.
-    let m = h.no_other q e in
-    not_zero (find_label ps q) (subst (λ (x : ℕ). 0 < find_label ps x) m.2 (find_at 0 n ps m.0 (0, 0) t (omega (arith, m.1)))))
-    (λ e.
-    let m = find_in ps q (0, 0) (above_zero (find_label ps q) e) in
-    ap (has set) (sym m.2) ∙ h.has_each m.0 (omega (arith, m.1)))
-  where
-    both : (a b : Bool) → (a ≡ true → b ≡ true) → (b ≡ true → a ≡ true) → a ≡ b
-    both true b f g = sym (f refl)
-    both false true f g = g refl
-    both false false f g = refl
-
-pub gathers_below : (n : ℕ) (ps : Pairs) (i set : ℕ) → IsTable 0 n ps → Gathers ps i set → i ≤ length ps → (q : ℕ) → has set q ≡ true → q < n
-gathers_below n ps i set t h most q e =
-    let m = h.no_other q e in
-    subst (λ (x : ℕ). x < n) m.2 (table_below 0 n ps m.0 (0, 0) t (omega (arith, m.1)))

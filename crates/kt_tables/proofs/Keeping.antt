@@ -10,14 +10,9 @@ use Rattle.kt_tables.specs.Calls.{Call, sent, received, on_tentative, on_commit,
 use Rattle.kt_tables.specs.Peers.{LabelTable, label_of, no_label, at_peer, has_one, IsCohort}
 use Rattle.kt_tables.specs.States.{State}
 use Rattle.kt_tables.specs.Standing.{KeepsLabels, TablesStandFor}
+use Rattle.kt_tables.proofs.Pairs.{at_same, at_other}
 use Rattle.kt_tables.proofs.LabelLists.{least_push, has_least, has_greatest, greatest-append, least_decides, greatest_decides}
 use Rattle.kt_tables.proofs.CallParts.{parts_push, sents-append, receiveds-append, ends, quiet, sent_rises, received_rises}
-
-at_same : (p l : ℕ) (f : ℕ → ℕ) → at_peer p l f p ≡ l
-at_same p l f = grind (arith, nat_tests)
-
-at_other : (p q l : ℕ) (f : ℕ → ℕ) → q ≢ p → at_peer p l f q ≡ f q
-at_other p q l f n = grind (arith, nat_tests)
 
 -- calls that send nothing add no label sent
 sents_more : (q : ℕ) (calls : List Call) (c : Call) → sents q (c ∷ []) ≡ [] → sents q (calls ++ c ∷ []) ≡ sents q calls
@@ -188,7 +183,7 @@ stands_commit t calls rcvd first last h s o f g e =
     })
 
 pub stands_abort : (t : State) (calls : List Call) (rcvd merged first none nothing : LabelTable) → TablesStandFor t calls → Speaks (calls ++ on_abort ∷ []) → t.is_tentative ≡ true →
-    label_of rcvd ≡ label_of merged → ((q : ℕ) → label_of merged q ≡ max (label_of t.last_rcvd q) (label_of t.kept_rcvd q)) → label_of first ≡ label_of t.kept_sent → label_of none ≡ no_label → label_of nothing ≡ no_label →
+    label_of rcvd ≡ label_of merged → ((q : ℕ) → label_of merged q ≡ max (label_of t.kept_rcvd q) (label_of t.last_rcvd q)) → label_of first ≡ label_of t.kept_sent → label_of none ≡ no_label → label_of nothing ≡ no_label →
     TablesStandFor (record t { is_tentative = false; last_rcvd = rcvd; first_sent = first; kept_rcvd = none; kept_sent = nothing }) (calls ++ on_abort ∷ [])
 stands_abort t calls rcvd merged first none nothing h s o m e d f g =
     let v = parts calls in
@@ -200,7 +195,7 @@ stands_abort t calls rcvd merged first none nothing h s o m e d f g =
           let j = greatest-append (receiveds q v.aside) (receiveds q v.since) in
           let n : receiveds q (v.aside ++ (v.since ++ on_abort ∷ [])) ≡ receiveds q v.aside ++ receiveds q v.since =
           receiveds-append q v.aside (v.since ++ on_abort ∷ []) ∙ ap (λ (x : List ℕ). receiveds q v.aside ++ x) (receiveds_more q v.since on_abort refl) in
-          ap (λ (x : ℕ → ℕ). x q) m ∙ (e q ∙ (both (k.last_rcvd q) (k.kept_rcvd q) ∙ sym (ap greatest n ∙ j)));
+          ap (λ (x : ℕ → ℕ). x q) m ∙ (e q ∙ (both (k.kept_rcvd q) (k.last_rcvd q) ∙ sym (ap greatest n ∙ j)));
       first_sent = λ q.
           let n : sents q (v.aside ++ (v.since ++ on_abort ∷ [])) ≡ sents q v.aside =
           sents-append q v.aside (v.since ++ on_abort ∷ [])
@@ -212,7 +207,7 @@ stands_abort t calls rcvd merged first none nothing h s o m e d f g =
       last_out = λ q. k.last_out q ∙ ap greatest (sym (sents_more q v.calls on_abort refl));
     })
   where
-    both : {a b x y : ℕ} → a ≡ x → b ≡ y → max a b ≡ max y x
+    both : {a b x y : ℕ} → a ≡ x → b ≡ y → max a b ≡ max x y
     both p q = omega (arith, p, q)
 
 pub stands_rollback : (t : State) (calls : List Call) (rcvd first : LabelTable) → TablesStandFor t calls → Speaks (calls ++ on_rollback ∷ []) → t.is_tentative ≡ false →

@@ -4,4 +4,3 @@ pub mod Lists
 pub mod Peers
 pub mod Standing
 pub mod States
-pub mod Walks

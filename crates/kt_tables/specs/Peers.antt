@@ -1,5 +1,6 @@
 -- A table: one label for each peer.
-use Rattle.std.specs.Prelude.{◌≡◌, ℕ, zero, suc, ◌+◌, ◌<◌, ◌≤◌, ◌==◌, ◌↔◌, if◌then◌else◌, Bool, true, not, List, [], ◌∷◌, AllPairs, Contains}
+use Rattle.std.specs.Prelude.{◌≡◌, ℕ, zero, suc, ◌+◌, ◌<◌, ◌≤◌, ◌==◌, ◌↔◌, if◌then◌else◌, Bool, true, not, List, [], ◌∷◌, AllPairs, Contains, slice_index}
+use Rattle.kt_base.specs.Sets.{has}
 
 -- pairs of peer and label, and below which number the peers are
 pub record LabelTable : Type 0 where
@@ -19,6 +20,19 @@ label_of t q = find_label t.pairs q
 unfoldable pub IsTable : ℕ → ℕ → List (ℕ × ℕ) → Type 0
 IsTable low peers [] = Unit {0}
 IsTable low peers (pair ∷ pairs) = (low ≤ pair.0) × (pair.0 < peers) × (0 < pair.1) × IsTable (pair.0 + 1) peers pairs
+
+-- the pairs of a set's peers, with the labels of all peers from `low` on
+unfoldable pub pairs_from : ℕ → ℕ → List ℕ → List (ℕ × ℕ)
+pairs_from low set [] = []
+pairs_from low set (label ∷ labels) = if has set low then (low, label) ∷ pairs_from (low + 1) set labels else pairs_from (low + 1) set labels
+
+-- the pairs of a set's peers, with labels by number of peer
+unfoldable pub pairs_of : ℕ → List ℕ → List (ℕ × ℕ)
+pairs_of set labels = pairs_from 0 set labels
+
+-- each of these peers has a label above 0
+abbrev pub HaveLabels : ℕ → List ℕ → Type 0
+HaveLabels set labels = (q : ℕ) → has set q ≡ true → 0 < slice_index labels q
 
 -- no label for any peer
 abbrev pub no_label : ℕ → ℕ

@@ -2,7 +2,7 @@
 use Rattle.std.specs.Prelude.{◌≡◌, ◌≤◌, ◌<◌, ℕ, nat_lt, nat_le, ◌&&◌, Bool, List}
 use Rattle.kt_tables.specs.Labels.{least, greatest}
 use Rattle.kt_tables.specs.Calls.{Call, PartsOfCalls, parts, sents, receiveds, Speaks}
-use Rattle.kt_tables.specs.Peers.{LabelTable, label_of}
+use Rattle.kt_tables.specs.Peers.{label_of}
 use Rattle.kt_tables.specs.States.{State}
 
 -- the labels that the tables keep of the parts of a list, peer by peer
@@ -21,7 +21,7 @@ pub record TablesStandFor (t : State) (calls : List Call) : Type 0 where
   pub keeps : KeepsLabels t (parts calls)
 
 -- each table has room for all peers, of which there are at most 64
-pub record HasPeerRoom (t : State) (scratch : LabelTable) : Type 0 where
+pub record HasPeerRoom (t : State) : Type 0 where
   pub few : t.processes ≤ 64
   pub last_rcvd : t.last_rcvd.peers ≡ t.processes
   pub first_sent : t.first_sent.peers ≡ t.processes
@@ -29,7 +29,6 @@ pub record HasPeerRoom (t : State) (scratch : LabelTable) : Type 0 where
   pub kept_sent : t.kept_sent.peers ≡ t.processes
   pub last_sent : t.last_sent.peers ≡ t.processes
   pub last_out : t.last_out.peers ≡ t.processes
-  pub merging : scratch.peers ≡ t.processes
 
 -- a label that may be sent to a peer: above 0 and above the last one sent to it
 abbrev pub CanSend : State → ℕ → ℕ → Type 0

@@ -1,172 +1,44 @@
 //! One table: a label for each peer that has one.
 
-ghost use Rattle.std.specs.Prelude.{◌≡◌, ◌<◌, ◌∷◌, [], ℕ, true, if◌then◌else◌, max, ◌↔◌, IsTrue, IfSome, IfNone, IfOk, ◌≤◌, length, drop, All, AllPairs};
+ghost use Rattle.std.specs.Prelude.{◌≡◌, ◌<◌, ◌↔◌, ◌≤◌, ℕ, true, if◌then◌else◌, max, IsTrue, IfSome, IfNone, IfOk, All, AllPairs};
 ghost use Rattle.kt_base.specs.Sets.{has};
-ghost use Rattle.kt_tables.specs.Peers.{label_of, find_label, IsTable, no_label, at_peer, has_one, count_peers, IsCohort};
-ghost use Rattle.kt_tables.specs.Walks.{place_of, after_peer, smaller_head, head_label, stands_at};
+ghost use Rattle.kt_tables.specs.Peers.{label_of, IsTable, no_label, at_peer, has_one, count_peers, IsCohort};
 
+use crate::label_pairs::LabelPairs;
 use kt_base::{Label, Memory, ProcNo, ProcSet};
 use std::alloc::Global;
 use std::marker::Model;
 use std::mem;
 
-/// A label for each peer, kept as pairs by rising peer, for the peers that have one alone.
+/// A label for each peer, by number, which counts only for the peers of a set.
 ///
 /// The room for all peers is taken at once, so that no change takes memory.
 #[derive(Drop)]
 pub struct PeerLabels {
-    peers: usize,
-    pairs: Vec<(ProcNo, Label)>,
+    labelled: ProcSet,
+    labels: Vec<Label>,
 }
 
 impl Model for PeerLabels {
-    ghost use Rattle.std.specs.Prelude.{◌≤◌, vec_capacity};
-    ghost use Rattle.kt_tables.specs.Peers.{LabelTable, IsTable};
+    ghost use Rattle.std.specs.Prelude.{length};
+    ghost use Rattle.kt_tables.specs.Peers.{LabelTable, pairs_of, HaveLabels};
 
     ghost Value = { LabelTable };
 
-    ghost view = { λ t. record { peers = t.peers; pairs = t.pairs.items } };
+    ghost view = { λ t. record {
+      peers = length t.labels.items;
+      pairs = pairs_of t.labelled t.labels.items;
+    } };
 
-    ghost invariant = { λ t. IsTable 0 t.peers t.pairs.items × (t.peers ≤ vec_capacity t.pairs) };
+    ghost invariant = { λ t. HaveLabels t.labelled t.labels.items };
 }
 
 /// No label.
+#[inline(always)]
 fn none() -> Label
     ensures { result ≡ 0 }
 {
     Label::new(0).unwrap()
-}
-
-/// The later of two labels.
-fn later(first: Label, second: Label) -> Label
-    ensures { result ≡ max first second }
-{
-    if first.get() < second.get() {
-        second
-    } else {
-        first
-    }
-}
-
-/// Where the pair of a peer stands, or would stand.
-fn place(pairs: &[(ProcNo, Label)], peer: ProcNo) -> usize
-    ensures place { result ≡ place_of pairs.now peer }
-    ensures within { result ≤ length pairs.now }
-{
-    for (place, pair) in pairs.iter().enumerate() {
-        if pair.0.get() >= peer.get() {
-            return place;
-        }
-    }
-    pairs.len()
-}
-
-/// Whether the pair of a peer stands at a place.
-fn stands(pairs: &[(ProcNo, Label)], place: usize, peer: ProcNo) -> bool
-    ensures { result ≡ stands_at pairs.now place peer }
-{
-    place < pairs.len() && pairs[place].0.get() == peer.get()
-}
-
-/// The label of a pair, where that is the pair of a peer.
-#[inline(always)]
-fn label_in(pair: &(ProcNo, Label), peer: ProcNo) -> Label
-    ensures { result ≡ find_label (pair.now ∷ []) peer }
-{
-    if pair.0.get() == peer.get() {
-        pair.1
-    } else {
-        none()
-    }
-}
-
-/// The first pairs, as far as the pair of a peer may stand: no further on than its number, since pairs stand by rising peer.
-#[inline(always)]
-fn as_far_as(pairs: &[(ProcNo, Label)], peer: ProcNo) -> &[(ProcNo, Label)]
-    ensures table { (n : ℕ) → IsTable 0 n pairs.now → IsTable 0 n result.now }
-    ensures label { (n : ℕ) → IsTable 0 n pairs.now → find_label result.now peer ≡ find_label pairs.now peer }
-{
-    &pairs[..pairs.len().min(peer.index() + 1)]
-}
-
-/// The label of a peer in some pairs, 0 for none: from the last pair on, which is the peer's own where most peers have one.
-fn label_from_back(pairs: &[(ProcNo, Label)], peer: ProcNo) -> Label
-    ensures { (n : ℕ) → IsTable 0 n pairs.now → result ≡ find_label pairs.now peer }
-{
-    let mut rest: &[(ProcNo, Label)] = pairs;
-    while let Some((pair, before)) = rest.split_last() {
-        if pair.0.get() <= peer.get() {
-            return label_in(pair, peer);
-        }
-        rest = before;
-    }
-    none()
-}
-
-/// The label at the head, where that is the pair of a peer.
-fn head(pairs: &[(ProcNo, Label)], peer: ProcNo) -> Label
-    ensures { result ≡ head_label pairs.now peer }
-{
-    let Some(pair) = pairs.first() else {
-        return none();
-    };
-    if pair.0.get() == peer.get() {
-        pair.1
-    } else {
-        none()
-    }
-}
-
-/// The pairs from a peer on.
-fn from_peer(pairs: &[(ProcNo, Label)], peer: ProcNo) -> &[(ProcNo, Label)]
-    ensures { result.now ≡ drop (place_of pairs.now peer) pairs.now }
-{
-    &pairs[place(pairs, peer)..]
-}
-
-/// The pairs without the head, where that is the pair of a peer.
-fn after(pairs: &[(ProcNo, Label)], peer: ProcNo) -> &[(ProcNo, Label)]
-    ensures { result.now ≡ after_peer pairs.now peer }
-{
-    let Some((pair, rest)) = pairs.split_first() else {
-        return pairs;
-    };
-    if pair.0.get() == peer.get() {
-        rest
-    } else {
-        pairs
-    }
-}
-
-/// The smaller peer at the heads of two lists.
-fn smaller(first: &[(ProcNo, Label)], second: &[(ProcNo, Label)]) -> Option<ProcNo>
-    ensures { result ≡ smaller_head first.now second.now }
-{
-    match (first.first(), second.first()) {
-        (None, None) => None,
-        (Some(pair), None) => Some(pair.0),
-        (None, Some(pair)) => Some(pair.0),
-        (Some(here), Some(there)) => {
-            if here.0.get() <= there.0.get() {
-                Some(here.0)
-            } else {
-                Some(there.0)
-            }
-        }
-    }
-}
-
-/// Whether the labels of some pairs are at most this one.
-fn are_at_most(pairs: &[(ProcNo, Label)], most: Label) -> bool
-    ensures { (n : ℕ) → IsTable 0 n pairs.now →
-        (IsTrue result ↔ ((q : ℕ) → find_label pairs.now q ≤ most)) }
-{
-    for pair in pairs {
-        if pair.1.get() > most.get() {
-            return false;
-        }
-    }
-    true
 }
 
 /// Whether pairs stand by rising peer, each peer below a number and each label above 0.
@@ -198,24 +70,28 @@ impl PeerLabels {
         if !is_table(peers, pairs) {
             return Ok(None);
         }
-        let mut own = Vec::with_capacity(alloc, peers)?;
-        own.extend_from_slice(pairs).unwrap();
-        Ok(Some(PeerLabels { peers, pairs: own }))
+        let mut table = PeerLabels::new(alloc, peers)?;
+        for pair in pairs {
+            table.put(pair.0, pair.1);
+        }
+        let _pairs = table.pairs();
+        Ok(Some(table))
     }
 
     /// Whether no label is above this one.
     pub(crate) fn are_at_most(&self, most: Label) -> bool
         ensures { IsTrue result ↔ ((q : ℕ) → label_of self.now q ≤ most) }
     {
-        are_at_most(&self.pairs, most)
+        self.pairs().all(|pair| pair.1.get() <= most.get())
     }
 
     /// The pairs of a peer and its label, by rising peer.
-    pub(crate) fn pairs(&self) -> &[(ProcNo, Label)]
-        ensures pairs { result.now ≡ self.now.pairs }
-        ensures table { IsTable 0 self.now.peers result.now }
+    #[inline(always)]
+    pub(crate) fn pairs(&self) -> LabelPairs<'_>
+        ensures pairs { result ≡ self.now.pairs }
+        ensures table { IsTable 0 self.now.peers result }
     {
-        &self.pairs
+        LabelPairs::new(self.labelled, &self.labels)
     }
 
     /// A table with no label, for the peers below a number of at most 64.
@@ -224,34 +100,37 @@ impl PeerLabels {
         ensures empty { IfOk result (λ t. label_of t ≡ no_label) }
     {
         Ok(PeerLabels {
-            peers,
-            pairs: Vec::with_capacity(alloc, peers)?,
+            labelled: ProcSet::empty(),
+            labels: vec![in alloc; none(); peers]?,
         })
     }
 
     /// The label of a peer, 0 for none.
+    #[inline(always)]
     pub(crate) fn label(&self, peer: ProcNo) -> Label
         ensures { result ≡ label_of self.now peer }
     {
-        label_from_back(as_far_as(&self.pairs, peer), peer)
+        if self.labelled.has(peer) {
+            self.labels[peer.index()]
+        } else {
+            none()
+        }
     }
 
     /// Gives a peer a label.
+    #[inline(always)]
     pub(crate) fn put(&mut self, peer: ProcNo, label: Label)
         requires peer { peer < self.old.peers }
         requires label { 0 < label }
         ensures peers { self.new.peers ≡ self.old.peers }
         ensures labels { label_of self.new ≡ at_peer peer label (label_of self.old) }
     {
-        let place = place(&self.pairs, peer);
-        if stands(&self.pairs, place, peer) {
-            self.pairs[place] = (peer, label);
-        } else {
-            self.pairs.insert(place, (peer, label)).unwrap();
-        }
+        self.labels[peer.index()] = label;
+        self.labelled = self.labelled.with(peer);
     }
 
     /// Gives a peer a label where it has none.
+    #[inline(always)]
     pub(crate) fn put_first(&mut self, peer: ProcNo, label: Label)
         requires peer { peer < self.old.peers }
         requires label { 0 < label }
@@ -264,14 +143,16 @@ impl PeerLabels {
     }
 
     /// Takes all labels out.
+    #[inline(always)]
     pub(crate) fn clear(&mut self)
         ensures peers { self.new.peers ≡ self.old.peers }
         ensures labels { label_of self.new ≡ no_label }
     {
-        self.pairs.clear();
+        self.labelled = ProcSet::empty();
     }
 
     /// Takes the labels out of another table.
+    #[inline(always)]
     pub(crate) fn take(&mut self, other: &mut PeerLabels)
         requires { self.old.peers ≡ other.old.peers }
         ensures peers { self.new.peers ≡ self.old.peers }
@@ -279,27 +160,24 @@ impl PeerLabels {
         ensures other_peers { other.new.peers ≡ other.old.peers }
         ensures other_labels { label_of other.new ≡ no_label }
     {
-        mem::swap(&mut self.pairs, &mut other.pairs);
-        other.pairs.clear();
+        mem::swap(self, other);
+        other.clear();
     }
 
     /// How many peers have a label.
     pub(crate) fn count(&self) -> usize
         ensures { result ≡ count_peers self.now.peers (has_one self.now) }
     {
-        self.pairs.len()
+        self.pairs().left()
     }
 
     /// The peers that have a label.
+    #[inline(always)]
     pub(crate) fn peers(&self) -> ProcSet
         ensures peers { (q : ℕ) → has result q ≡ has_one self.now q }
         ensures within { (q : ℕ) → has result q ≡ true → q < self.now.peers }
     {
-        let mut peers = ProcSet::empty();
-        for pair in &self.pairs {
-            peers = peers.with(pair.0);
-        }
-        peers
+        self.labelled
     }
 
     /// Takes over the labels of another table.
@@ -308,29 +186,20 @@ impl PeerLabels {
         ensures peers { self.new.peers ≡ self.old.peers }
         ensures labels { label_of self.new ≡ label_of other.now }
     {
-        self.pairs.clear();
-        self.pairs.extend_from_slice(&other.pairs).unwrap();
+        self.labelled = other.labelled;
+        self.labels.copy_from_slice(&other.labels);
     }
 
-    /// Takes the later of two tables' labels for each peer.
-    pub(crate) fn set_to_later(&mut self, first: &PeerLabels, second: &PeerLabels)
-        requires first { first.now.peers ≡ self.old.peers }
-        requires second { second.now.peers ≡ self.old.peers }
+    /// Takes over each label of another table that is later than its own.
+    pub(crate) fn raise_to(&mut self, other: &PeerLabels)
+        requires { other.now.peers ≡ self.old.peers }
         ensures peers { self.new.peers ≡ self.old.peers }
-        ensures labels { (q : ℕ) → label_of self.new q ≡ max (label_of first.now q) (label_of second.now q) }
+        ensures labels { (q : ℕ) → label_of self.new q ≡ max (label_of self.old q) (label_of other.now q) }
     {
-        if first.pairs.is_empty() {
-            self.copy_from(second);
-            return;
-        }
-        self.pairs.clear();
-        let mut first: &[(ProcNo, Label)] = &first.pairs;
-        let mut second: &[(ProcNo, Label)] = &second.pairs;
-        while let Some(peer) = smaller(first, second) {
-            let label = later(head(first, peer), head(second, peer));
-            self.pairs.push_reserved((peer, label));
-            first = after(first, peer);
-            second = after(second, peer);
+        for (peer, label) in other.pairs() {
+            if self.label(peer).get() < label.get() {
+                self.put(peer, label);
+            }
         }
     }
 
@@ -340,11 +209,10 @@ impl PeerLabels {
         ensures rising { IfOk result (λ pairs. AllPairs (λ x y. x.0 < y.0) pairs.items) }
         ensures within { IfOk result (λ pairs. All (λ pair. pair.0 < self.now.peers) pairs.items) }
     {
-        let mut cohort = Vec::with_capacity(*self.pairs.allocator(), self.pairs.len())?;
-        let mut rest: &[(ProcNo, Label)] = &labels.pairs;
-        for pair in &self.pairs {
-            rest = from_peer(rest, pair.0);
-            cohort.push_reserved((pair.0, head(rest, pair.0)));
+        let pairs = self.pairs();
+        let mut cohort = Vec::with_capacity(*self.labels.allocator(), pairs.left())?;
+        for (peer, _label) in pairs {
+            cohort.push_reserved((peer, labels.label(peer)));
         }
         Ok(cohort)
     }
@@ -355,7 +223,6 @@ impl PeerLabels {
         ensures rising { IfOk result (λ pairs. AllPairs (λ x y. x.0 < y.0) pairs.items) }
         ensures within { IfOk result (λ pairs. All (λ pair. pair.0 < self.now.peers) pairs.items) }
     {
-        let cohort = Vec::from_slice(*self.pairs.allocator(), self.pairs.as_slice())?;
-        Ok(cohort)
+        self.cohort(self)
     }
 }

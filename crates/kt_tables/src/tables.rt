@@ -7,10 +7,10 @@ ghost use Rattle.kt_tables.specs.Calls.{Call, sent, received, on_tentative, on_c
 ghost use Rattle.kt_tables.specs.Labels.{has_label, greatest};
 ghost use Rattle.kt_tables.specs.States.{State};
 ghost use Rattle.kt_tables.specs.Standing.{TablesStandFor, CanSend, CanReceive};
-ghost use Rattle.kt_tables.specs.Lists.{state_of, AreTables};
+ghost use Rattle.kt_tables.specs.Lists.{state_of, pairs_in, AreTables};
 ghost use Rattle.kt_tables.specs.Peers.{label_of, no_label, at_peer, has_one, count_peers, IsCohort};
 
-use crate::lists::TableLists;
+use crate::lists::{TableLists, TablePairs};
 use crate::peers::PeerLabels;
 use kt_base::{Label, Memory, ProcNo, ProcSet};
 use std::alloc::Global;
@@ -67,8 +67,6 @@ pub struct Tables {
     kept_sent: PeerLabels,
     last_sent: PeerLabels,
     last_out: PeerLabels,
-    /// Where two tables are merged; what it holds between calls doesn't count.
-    merged: PeerLabels,
 }
 
 impl Model for Tables {
@@ -97,7 +95,7 @@ impl Model for Tables {
       kept_sent = t.kept_sent;
       last_sent = t.last_sent;
       last_out = t.last_out;
-    }) t.merged };
+    }) };
 }
 
 impl Tables {
@@ -121,7 +119,6 @@ impl Tables {
             kept_sent: PeerLabels::new(alloc, processes)?,
             last_sent: PeerLabels::new(alloc, processes)?,
             last_out: PeerLabels::new(alloc, processes)?,
-            merged: PeerLabels::new(alloc, processes)?,
         })
     }
 
@@ -135,7 +132,7 @@ impl Tables {
         requires { processes ≤ 64 }
         ensures some { IfOk result (λ made. IfSome made (λ t.
             t ≡ state_of processes is_tentative lists.now)) }
-        ensures none { IfOk result (λ made. IfNone made (AreTables processes lists.now → ⊥)) }
+        ensures none { IfOk result (λ made. IfNone made (AreTables (state_of processes is_tentative lists.now) → ⊥)) }
     {
         let (Some(last_rcvd), Some(first_sent), Some(kept_rcvd)) = (
             PeerLabels::of(alloc, processes, lists.last_rcvd)?,
@@ -160,7 +157,6 @@ impl Tables {
             kept_sent,
             last_sent,
             last_out,
-            merged: PeerLabels::new(alloc, processes)?,
         }))
     }
 
@@ -172,11 +168,11 @@ impl Tables {
     }
 
     /// What they are made of.
-    pub fn lists(&self) -> TableLists<'_>
-        ensures state { self.now ≡ state_of self.now.processes self.now.is_tentative result }
-        ensures tables { AreTables self.now.processes result }
+    pub fn pairs(&self) -> TablePairs<'_>
+        ensures pairs { result ≡ pairs_in self.now }
+        ensures tables { AreTables self.now }
     {
-        TableLists {
+        TablePairs {
             last_rcvd: self.last_rcvd.pairs(),
             first_sent: self.first_sent.pairs(),
             kept_rcvd: self.kept_rcvd.pairs(),
@@ -281,9 +277,8 @@ impl Tables {
         ensures stands { (calls : List Call) → TablesStandFor self.old calls → TablesStandFor self.new (calls ++ on_abort ∷ []) }
     {
         self.first_sent.take(&mut self.kept_sent);
-        self.merged.set_to_later(&self.last_rcvd, &self.kept_rcvd);
-        self.last_rcvd.take(&mut self.merged);
-        self.kept_rcvd.clear();
+        self.kept_rcvd.raise_to(&self.last_rcvd);
+        self.last_rcvd.take(&mut self.kept_rcvd);
         self.is_tentative = false;
     }
 

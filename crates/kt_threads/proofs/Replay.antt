@@ -15,35 +15,20 @@ use Rattle.kt_plan.specs.declared.steps.Act.TheVariants as act
 use Rattle.kt_plan.specs.declared.steps.Look.TheVariants as need
 use Rattle.kt_promises.specs.Looks as run_looks
 use Rattle.kt_promises.specs.Progress.{Progress, progress_at_start}
-use Rattle.kt_system.specs.Systems.{Whole, IsSameSystem}
+use Rattle.kt_system.proofs.SameSystems.{same_self, same_then}
 use Rattle.kt_spacetime.specs.declared.event.Event.{Event}
 use Rattle.kt_threads.specs.Histories.{IsMade, StepsLead, IsHistory}
 use Rattle.kt_threads.specs.Rows.{four_rows}
 use Rattle.kt_threads.specs.Turns.{IsReadyStep}
 use Rattle.kt_threads.specs.declared.state.Made.{Made}
 
-pub same_system : (s : Whole) → IsSameSystem s s
-same_system s = record { size = refl; states = refl; channels = refl; held = refl; kept = refl; rows = refl; begun = refl; put = refl }
-
 pub same_world : (w : World) → IsSameWorld w w
-same_world w = record { agenda = refl; system = same_system w.system; limit = refl }
-
-pub systems_along : (r s t : Whole) → IsSameSystem r s → IsSameSystem s t → IsSameSystem r t
-systems_along r s t a b = record {
-  size = a.size ∙ b.size;
-  states = a.states ∙ b.states;
-  channels = a.channels ∙ b.channels;
-  held = a.held ∙ b.held;
-  kept = a.kept ∙ b.kept;
-  rows = a.rows ∙ b.rows;
-  begun = a.begun ∙ b.begun;
-  put = a.put ∙ b.put;
-}
+same_world w = record { agenda = refl; system = same_self w.system; limit = refl }
 
 pub worlds_along : (u v w : World) → IsSameWorld u v → IsSameWorld v w → IsSameWorld u w
 worlds_along u v w a b = record {
   agenda = a.agenda ∙ b.agenda;
-  system = systems_along u.system v.system w.system a.system b.system;
+  system = same_then w.system v.system u.system b.system a.system;
   limit = a.limit ∙ b.limit;
 }
 

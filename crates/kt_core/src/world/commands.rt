@@ -77,7 +77,7 @@ fn do_job(
     match *job {
         Job::Send { to, body } => system.send(p, to, body.unwrap_or(give.body), acts),
         Job::Checkpoint => system.begin_checkpoint(alloc, p, give.able, acts),
-        Job::Rollback => system.begin_rollback(p, acts),
+        Job::Rollback => system.begin_rollback(alloc, p, acts),
         Job::Fail => system.fail(p, acts),
     }
 }

@@ -97,7 +97,7 @@ impl World {
 
     /// A process takes a parcel of another one; then the next phase may open.
     #[inline(always)]
-    fn take(
+    pub(super) fn take(
         &mut self,
         at: ProcNo,
         from: ProcNo,

@@ -1,6 +1,6 @@
 //! Instances begun, joined and closed.
 
-ghost use Rattle.std.specs.Prelude.{◌≡◌, ◌<◌, ◌≤◌, ◌+◌, ℕ, if◌then◌else◌, true, Bool, Some, None, [], ◌∷◌, ◌++◌, length, IfOk, OnOk, OnErr};
+ghost use Rattle.std.specs.Prelude.{◌≡◌, ◌<◌, ◌≤◌, ◌+◌, ℕ, if◌then◌else◌, true, Bool, Some, None, [], ◌∷◌, ◌++◌, length, IfOk, IfSome, OnOk, OnErr};
 ghost use Rattle.kt_base.specs.Sets.{has};
 ghost use Rattle.kt_base.specs.declared.words.Kind.TheVariants as kind;
 ghost use Rattle.kt_meaning.specs.Past.{is_rollback_kind};
@@ -13,7 +13,7 @@ ghost use Rattle.kt_manager.specs.NodeSteps.{is_in, told_to_begin, asked, counti
 ghost use Rattle.kt_manager.specs.ShownActs.{acts_shown, acts_joining};
 ghost use Rattle.kt_manager.specs.Managers.{HoldsFor, ShowsManager, IsSameManager, IsTurned, size_of, awaited_by, process_of, after_closing};
 ghost use Rattle.kt_manager.specs.Turns.{begin_verb, BeginsIn, HearsIn, CanGoOn, CanFollow, named_cause, unwilling_rows, joined_row, joined_in, deciding, gone_on};
-ghost use Rattle.kt_manager.specs.Effects.{IsDone, put_to};
+ghost use Rattle.kt_manager.specs.Effects.{IsDone, put_to, AreWithin};
 ghost use Rattle.kt_manager.specs.declared.effects.Parcels.TheVariants as puts;
 ghost use Rattle.kt_manager.specs.declared.parcels.NodeParcel.TheVariants as put;
 
@@ -23,7 +23,7 @@ use crate::effects::{Effects, Parcels};
 use crate::parcels::NodeParcel;
 use kt_base::{Cause, Kind, Label, Memory, ProcNo, ProcSet, Verb};
 use kt_plan::Act;
-use kt_process::{Action, Asks, Then};
+use kt_process::{Action, AskReply, Asks, Then};
 use kt_spacetime::{InstName, NamedCause, NamedEvent};
 use std::alloc::Global;
 
@@ -48,6 +48,8 @@ impl Manager {
         ensures done { (y : NodeState) → ShowsManager self.old y → OnOk result
             (IsDone self.new out.new
             (told_to_begin inst.now y.inst y (is_rollback_kind (Some kind)) able)) }
+        ensures size { size_of self.new ≡ size_of self.old }
+        ensures within { OnOk result (AreWithin (size_of self.new) out.new.parcels) }
         ensures err { OnErr result (IsSameManager self.new self.old) }
         ensures out { OnErr result (out.new ≡ out.old) }
     {
@@ -60,7 +62,7 @@ impl Manager {
     fn tell(&mut self, alloc: Global, kind: Kind, able: bool) -> Result<Action, Memory>
         ensures turned { IsTurned self.new self.old }
         ensures err { OnErr result (IsSameManager self.new self.old) }
-        ensures can { IfOk result (λ action. CanFollow action) }
+        ensures can { IfOk result (CanFollow (size_of self.new)) }
         ensures begins { (y : NodeState) → ShowsManager self.old y → IfOk result (λ action.
             BeginsIn kind able y self.new.process action) }
     {
@@ -75,11 +77,13 @@ impl Manager {
 
     /// What follows from a command to begin an instance.
     fn begun(&mut self, inst: &InstName, kind: Kind, action: Action, out: &mut Effects)
-        requires can { CanFollow action }
-        ensures { (y : NodeState) (able : Bool) → HoldsFor self.old y → self.old.inst ≡ y.inst →
+        requires can { CanFollow (size_of self.old) action }
+        ensures done { (y : NodeState) (able : Bool) → HoldsFor self.old y → self.old.inst ≡ y.inst →
             BeginsIn kind able y self.old.process action →
             IsDone self.new out.new
             (told_to_begin inst.now y.inst y (is_rollback_kind (Some kind)) able) }
+        ensures size { size_of self.new ≡ size_of self.old }
+        ensures within { AreWithin (size_of self.new) out.new.parcels }
     {
         match action {
             Action::Refuse(cause) => refuse(verb_of(kind), self.named(&cause), out),
@@ -104,12 +108,52 @@ impl Manager {
         ensures done { (y : NodeState) → ShowsManager self.old y → OnOk result
             (IsDone self.new out.new (asked y.inst y from able ask.now.inst
             (is_rollback_kind (Some ask.now.kind)) ask.now.label)) }
+        ensures size { size_of self.new ≡ size_of self.old }
+        ensures within { OnOk result (AreWithin (size_of self.new) out.new.parcels) }
         ensures err { OnErr result (IsSameManager self.new self.old) }
         ensures out { OnErr result (out.new ≡ out.old) }
     {
+        if let Some(reply) = self.reply_to(from, ask, able) {
+            self.reply(from, ask, reply, out);
+            return Ok(());
+        }
         let action = self.hear(alloc, from, ask, able)?;
         self.answer(from, ask, action, out);
         Ok(())
+    }
+
+    /// Its reply to an ask to take part in a checkpoint that does not make it join; None where it joins, and for a rollback.
+    #[inline(always)]
+    fn reply_to(&self, from: ProcNo, ask: &Ask, able: bool) -> Option<AskReply>
+        requires { from < size_of self.now }
+        ensures hears { IfSome result (λ reply. (y : NodeState) → ShowsManager self.now y →
+            HearsIn ask.now.kind able from ask.now.inst ask.now.label y self.now.process
+            (Action.Reply from reply.willing reply.cause)) }
+    {
+        match ask.kind {
+            Kind::Checkpoint => {
+                let number = self.number_for(&ask.inst);
+                self.process.reply_to_save(able, from, number, ask.label)
+            }
+            Kind::Rollback => None,
+        }
+    }
+
+    /// It replies to an ask.
+    #[inline(always)]
+    fn reply(&self, from: ProcNo, ask: &Ask, reply: AskReply, out: &mut Effects)
+        ensures rows { out.new.rows ≡ unwilling_rows ask.now.inst self.now.inst reply.cause }
+        ensures acts { out.new.acts ≡ [] }
+        ensures parcels { out.new.parcels ≡ puts.One from (put.Reply ask.now.inst reply.willing) }
+    {
+        self.tell_unwilling(&ask.inst, &reply.cause, out);
+        out.put(
+            from,
+            NodeParcel::Reply {
+                inst: ask.inst,
+                willing: reply.willing,
+            },
+        );
     }
 
     /// Its process is asked to take part in an instance.
@@ -117,7 +161,7 @@ impl Manager {
         requires { from < size_of self.old }
         ensures turned { IsTurned self.new self.old }
         ensures err { OnErr result (IsSameManager self.new self.old) }
-        ensures can { IfOk result (λ action. CanFollow action) }
+        ensures can { IfOk result (CanFollow (size_of self.new)) }
         ensures hears { (y : NodeState) → ShowsManager self.old y → IfOk result (λ action.
             HearsIn ask.now.kind able from ask.now.inst ask.now.label y self.new.process action) }
     {
@@ -127,7 +171,7 @@ impl Manager {
         }
     }
 
-    /// Its process is asked to take part in a checkpoint. Marks are made only where it joins.
+    /// Its process is asked to take part in a checkpoint.
     fn ask_to_save(
         &mut self,
         alloc: Global,
@@ -138,15 +182,12 @@ impl Manager {
         requires { from < size_of self.old }
         ensures turned { IsTurned self.new self.old }
         ensures err { OnErr result (IsSameManager self.new self.old) }
-        ensures can { IfOk result (λ action. CanFollow action) }
+        ensures can { IfOk result (CanFollow (size_of self.new)) }
         ensures hears { (y : NodeState) → ShowsManager self.old y → IfOk result (λ action.
             HearsIn kind.Checkpoint able from ask.now.inst ask.now.label y
             self.new.process action) }
     {
         let number = self.number_for(&ask.inst);
-        if let Some(action) = self.process.answer_to_save(able, from, number, ask.label) {
-            return Ok(action);
-        }
         let marks = self.inbox.marks(alloc)?;
         self.process
             .hear_ask_to_save(able, from, number, ask.label, marks)
@@ -157,7 +198,7 @@ impl Manager {
         requires { from < size_of self.old }
         ensures turned { IsTurned self.new self.old }
         ensures err { OnErr result (IsSameManager self.new self.old) }
-        ensures can { IfOk result (λ action. CanFollow action) }
+        ensures can { IfOk result (CanFollow (size_of self.new)) }
         ensures hears { (y : NodeState) → ShowsManager self.old y → IfOk result (λ action.
             HearsIn kind.Rollback true from ask.now.inst ask.now.label y self.new.process action) }
     {
@@ -167,27 +208,21 @@ impl Manager {
 
     /// What follows from an ask.
     fn answer(&mut self, from: ProcNo, ask: &Ask, action: Action, out: &mut Effects)
-        requires { CanFollow action }
-        ensures { (y : NodeState) (able : Bool) → HoldsFor self.old y → self.old.inst ≡ y.inst →
+        requires from { from < size_of self.old }
+        requires can { CanFollow (size_of self.old) action }
+        ensures done { (y : NodeState) (able : Bool) → HoldsFor self.old y → self.old.inst ≡ y.inst →
             HearsIn ask.now.kind able from ask.now.inst ask.now.label y self.old.process action →
             IsDone self.new out.new (asked y.inst y from able ask.now.inst
             (is_rollback_kind (Some ask.now.kind)) ask.now.label) }
+        ensures size { size_of self.new ≡ size_of self.old }
+        ensures within { AreWithin (size_of self.new) out.new.parcels }
     {
         match action {
             Action::Reply {
                 to: _to,
                 willing,
                 cause,
-            } => {
-                self.tell_unwilling(&ask.inst, &cause, out);
-                out.put(
-                    from,
-                    NodeParcel::Reply {
-                        inst: ask.inst,
-                        willing,
-                    },
-                );
-            }
+            } => self.reply(from, ask, AskReply { willing, cause }, out),
             Action::Join { ask: asks, goes } => {
                 out.clear();
                 self.join(&ask.inst, ask.kind, asks, goes, out);
@@ -197,6 +232,7 @@ impl Manager {
     }
 
     /// The row of who is unwilling to join, where there is a cause.
+    #[inline(always)]
     fn tell_unwilling(&self, inst: &InstName, cause: &Option<Cause>, out: &mut Effects)
         ensures rows { out.new.rows ≡ unwilling_rows inst.now self.now.inst cause.now }
         ensures acts { out.new.acts ≡ [] }
@@ -212,15 +248,17 @@ impl Manager {
 
     /// Its process has joined an instance: it asks these, or goes on at once.
     fn join(&mut self, inst: &InstName, kind: Kind, asks: Asks, goes: Then, out: &mut Effects)
-        requires can { CanGoOn asks goes }
+        requires can { CanGoOn (size_of self.old) asks goes }
         requires rows { length out.old.rows < 2 }
         requires acts { out.old.acts ≡ [] }
         requires parcels { out.old.parcels ≡ puts.Nothing }
-        ensures { (y : NodeState) (label : ℕ → ℕ) → HoldsFor self.old y →
+        ensures done { (y : NodeState) (label : ℕ → ℕ) → HoldsFor self.old y →
             IsSeenAs self.old.process (process_of y) → y.inst ≡ Some inst.now →
             IsCohort asks y.part.asked label → goes ≡ goes_on y.part → y.part.willing ≡ true →
             IsDone self.new out.new
             (settling inst.now (joined_in inst.now kind label out.old.rows y)) }
+        ensures size { size_of self.new ≡ size_of self.old }
+        ensures within { AreWithin (size_of self.new) out.new.parcels }
     {
         self.inst = Some(*inst);
         tell_joining(inst, kind, out);
@@ -241,21 +279,26 @@ impl Manager {
         }
     }
 
-    /// A reply comes that it awaits in this instance: the last one is followed by its own reply, or by the decision.
+    /// A reply comes that it awaits, in this instance: the last one is followed by its own reply, or by the decision.
     pub fn take_reply(&mut self, inst: &InstName, willing: bool, out: &mut Effects)
-        requires inside { is_in self.old.inst inst.now ≡ true }
-        requires awaited { 0 < awaited_by self.old }
+        requires { 0 < awaited_by self.old }
         ensures done { (y : NodeState) (q : ℕ) → ShowsManager self.old y →
             IsDone self.new out.new (settling inst.now (nothing (counting y q willing))) }
+        ensures size { size_of self.new ≡ size_of self.old }
+        ensures within { AreWithin (size_of self.new) out.new.parcels }
     {
+        let _tables = self.process.tables();
         let action = self.process.hear_reply(willing);
         self.go_on(inst, &action, out);
     }
 
     /// What follows from a reply.
     fn go_on(&mut self, inst: &InstName, action: &Action, out: &mut Effects)
-        ensures { (y : NodeState) → ShowsManager self.old y → (y.inst ≡ None → ⊥) →
+        requires { CanFollow (size_of self.old) action.now }
+        ensures done { (y : NodeState) → ShowsManager self.old y → (y.inst ≡ None → ⊥) →
             IsDone self.new out.new (gone_on inst.now y action.now) }
+        ensures size { size_of self.new ≡ size_of self.old }
+        ensures within { AreWithin (size_of self.new) out.new.parcels }
     {
         out.clear();
         match action {
@@ -283,6 +326,8 @@ impl Manager {
         requires { is_in self.old.inst inst.now ≡ true }
         ensures done { (y : NodeState) → ShowsManager self.old y →
             IsDone self.new out.new (closing inst.now commit (nothing y)) }
+        ensures size { size_of self.new ≡ size_of self.old }
+        ensures within { AreWithin (size_of self.new) out.new.parcels }
     {
         out.clear();
         self.close(inst, commit, out);
@@ -293,8 +338,10 @@ impl Manager {
         requires rows { length out.old.rows < 3 }
         requires acts { length out.old.acts < 2 }
         requires parcels { out.old.parcels ≡ puts.Nothing }
-        ensures { (d : Doing) → IsDone self.old out.old d → (d.state.inst ≡ None → ⊥) →
+        ensures done { (d : Doing) → IsDone self.old out.old d → (d.state.inst ≡ None → ⊥) →
             IsDone self.new out.new (closing inst.now commit (deciding inst.now commit d)) }
+        ensures size { size_of self.new ≡ size_of self.old }
+        ensures within { AreWithin (size_of self.new) out.new.parcels }
     {
         out.row(NamedEvent::Decided {
             inst: *inst,
@@ -308,8 +355,10 @@ impl Manager {
         requires rows { length out.old.rows < 4 }
         requires acts { length out.old.acts < 2 }
         requires parcels { out.old.parcels ≡ puts.Nothing }
-        ensures { (d : Doing) → IsDone self.old out.old d → (d.state.inst ≡ None → ⊥) →
+        ensures done { (d : Doing) → IsDone self.old out.old d → (d.state.inst ≡ None → ⊥) →
             IsDone self.new out.new (closing inst.now commit d) }
+        ensures size { size_of self.new ≡ size_of self.old }
+        ensures within { AreWithin (size_of self.new) out.new.parcels }
     {
         out.row(NamedEvent::Closed { inst: *inst });
         act_closing(self.process.is_ready(), commit, out);
@@ -344,6 +393,8 @@ impl Manager {
             ShowsManager self.new (after_closing commit y) }
         ensures tell { (y : NodeState) (q : ℕ) → ShowsManager self.old y →
             has result q ≡ y.part.asked q }
+        ensures size { size_of self.new ≡ size_of self.old }
+        ensures within { (q : ℕ) → has result q ≡ true → q < size_of self.new }
     {
         self.settle_kept(commit);
         self.inst = None;
@@ -415,6 +466,7 @@ fn tell_decision(inst: &InstName, commit: bool, to: ProcSet, out: &mut Effects)
     ensures rows { out.new.rows ≡ out.old.rows }
     ensures acts { out.new.acts ≡ out.old.acts }
     ensures puts { (q : ℕ) → put_to out.new.parcels q ≡ (if has to q then put.Decide inst.now commit ∷ [] else []) }
+    ensures within { (n : ℕ) → ((q : ℕ) → has to q ≡ true → q < n) → AreWithin n out.new.parcels }
 {
     if to.first().is_some() {
         out.put_all(Parcels::Decisions {

@@ -1,13 +1,16 @@
 //! Application messages, and failures.
 
-ghost use Rattle.std.specs.Prelude.{◌≡◌, ◌<◌, ◌-◌, ◌^◌, ◌≤◌, ◌||◌, true, false, OnOk, OnErr};
+ghost use Rattle.std.specs.Prelude.{◌≡◌, ◌<◌, ◌-◌, ◌^◌, ◌≤◌, ◌||◌, [], ◌∷◌, true, false, OnOk, OnErr};
 ghost use Rattle.kt_tables.specs.Calls.{Speaks};
+ghost use Rattle.kt_machine.specs.Values.{Apply};
 ghost use Rattle.kt_manager.specs.Messages.{has_some};
 ghost use Rattle.kt_manager.specs.Inboxes.{held_of, HasRoomFor};
 ghost use Rattle.kt_manager.specs.Nodes.{NodeState, is_in_rollback};
 ghost use Rattle.kt_manager.specs.NodeMessages.{receiving, arriving, taking_held, refusing};
 ghost use Rattle.kt_manager.specs.Managers.{ManagerState, ShowsManager, IsSameManager, size_of, is_rolling};
-ghost use Rattle.kt_manager.specs.Effects.{IsDone};
+ghost use Rattle.kt_manager.specs.Effects.{IsDone, AreWithin};
+ghost use Rattle.kt_manager.specs.ShownActs.{acts_shown};
+ghost use Rattle.kt_manager.specs.declared.effects.Parcels.TheVariants as puts;
 ghost use Rattle.kt_manager.specs.Turns.{told_to_send, told_to_fail, taking_message};
 
 use super::Manager;
@@ -26,6 +29,8 @@ impl Manager {
         ensures done { (y : NodeState) → ShowsManager self.old y →
             Speaks ((told_to_send y to body).state.calls) →
             IsDone self.new out.new (told_to_send y to body) }
+        ensures size { size_of self.new ≡ size_of self.old }
+        ensures within { AreWithin (size_of self.new) out.new.parcels }
     {
         if !self.process.is_up() {
             refuse(Verb::Send, NamedCause::Down, out);
@@ -38,8 +43,10 @@ impl Manager {
 
     /// Its object fails; where that is down already, it refuses.
     pub fn fail(&mut self, out: &mut Effects)
-        ensures { (y : NodeState) → ShowsManager self.old y →
+        ensures done { (y : NodeState) → ShowsManager self.old y →
             IsDone self.new out.new (told_to_fail y) }
+        ensures size { size_of self.new ≡ size_of self.old }
+        ensures within { AreWithin (size_of self.new) out.new.parcels }
     {
         if !self.process.is_up() {
             refuse(Verb::Fail, NamedCause::Down, out);
@@ -56,6 +63,10 @@ impl Manager {
         ensures done { (y : NodeState) → ShowsManager self.old y →
             Speaks ((taking_held y from (y.held from)).state.calls) →
             IsDone self.new out.new (taking_held y from (y.held from)) }
+        ensures acts { (y : NodeState) → ShowsManager self.old y →
+            acts_shown out.new.acts ≡ (taking_held y from (y.held from)).acts }
+        ensures size { size_of self.new ≡ size_of self.old }
+        ensures within { AreWithin (size_of self.new) out.new.parcels }
     {
         let Some(first) = self.first_held(from) else {
             out.clear();
@@ -88,6 +99,10 @@ impl Manager {
         ensures done { (y : NodeState) → ShowsManager self.old y →
             Speaks ((taking_message y from label body).state.calls) →
             OnOk result (IsDone self.new out.new (taking_message y from label body)) }
+        ensures acts { (y : NodeState) → ShowsManager self.old y →
+            OnOk result (acts_shown out.new.acts ≡ (taking_message y from label body).acts) }
+        ensures size { size_of self.new ≡ size_of self.old }
+        ensures within { OnOk result (AreWithin (size_of self.new) out.new.parcels) }
         ensures err { OnErr result (IsSameManager self.new self.old) }
         ensures out { OnErr result (out.new ≡ out.old) }
         ensures memory { (y : NodeState) → ShowsManager self.old y →
@@ -114,9 +129,12 @@ impl Manager {
         requires up { self.old.process.up ≡ true }
         requires first { has_some (held_of self.old.inbox from) ≡ false }
         requires room { HasRoomFor self.old.inbox from }
-        ensures { (y : NodeState) → ShowsManager self.old y →
+        ensures done { (y : NodeState) → ShowsManager self.old y →
             Speaks ((arriving y from label body).state.calls) →
             IsDone self.new out.new (arriving y from label body) }
+        ensures size { size_of self.new ≡ size_of self.old }
+        ensures acts { acts_shown out.new.acts ≡ Apply from body ∷ [] }
+        ensures parcels { out.new.parcels ≡ puts.Nothing }
     {
         self.process.receive(from, label_of(label));
         self.inbox.keep(from, Item { label, body });
@@ -126,8 +144,10 @@ impl Manager {
 
 /// A message is received.
 fn tell_reception(from: ProcNo, label: Count, body: i64, out: &mut Effects)
-    ensures { (w : ManagerState) (y : NodeState) → ShowsManager w (receiving y from label body).state →
+    ensures done { (w : ManagerState) (y : NodeState) → ShowsManager w (receiving y from label body).state →
         IsDone w out.new (receiving y from label body) }
+    ensures acts { acts_shown out.new.acts ≡ Apply from body ∷ [] }
+    ensures parcels { out.new.parcels ≡ puts.Nothing }
 {
     out.tell(NamedEvent::Received { from, label });
     out.act(Act::Apply { from, body });
@@ -135,8 +155,9 @@ fn tell_reception(from: ProcNo, label: Count, body: i64, out: &mut Effects)
 
 /// A command is refused.
 pub(super) fn refuse(verb: Verb, cause: NamedCause, out: &mut Effects)
-    ensures { (w : ManagerState) (y : NodeState) → ShowsManager w y →
+    ensures done { (w : ManagerState) (y : NodeState) → ShowsManager w y →
         IsDone w out.new (refusing y verb cause) }
+    ensures parcels { out.new.parcels ≡ puts.Nothing }
 {
     out.tell(NamedEvent::Refused { verb, cause });
 }

@@ -1,6 +1,6 @@
 //! The step of one node, and what it puts and tells.
 
-ghost use Rattle.std.specs.Prelude.{◌≡◌, ◌≤◌, ◌<◌, ◌+◌, ◌++◌, ◌==◌, ◌&&◌, if◌then◌else◌, ℕ, [], List, map, length, vec_len, vec_capacity, slice_index_or, slice_set, IfOk, IfSome, IfNone, OnOk, OnErr};
+ghost use Rattle.std.specs.Prelude.{◌≡◌, ◌≤◌, ◌<◌, ◌+◌, ◌++◌, ◌==◌, ◌&&◌, if◌then◌else◌, ℕ, [], List, map, length, vec_len, vec_capacity, slice_index_or, slice_set, true, IfOk, IfSome, IfNone, OnOk, OnErr, IsErrOf};
 ghost use Rattle.kt_protocol.specs.States.{Take};
 ghost use Rattle.kt_manager.specs.Nodes.{NodeState};
 ghost use Rattle.kt_node.specs.Clocks.{envelope, clocked_row, source_of};
@@ -8,7 +8,10 @@ ghost use Rattle.kt_machine.specs.Acts.{stepper};
 ghost use Rattle.kt_node.specs.Managers.{ShowsNode};
 ghost use Rattle.kt_manager.specs.Effects.{put_to};
 ghost use Rattle.kt_node.specs.Links.{NodeLinks, IsSameNode};
-ghost use Rattle.kt_node.specs.Clusters.{link, step_of, IsFront, IsTurn, IsSpeakable, coming, IsRefusedIn, IsSpent, IsSpentAs};
+ghost use Rattle.kt_node.specs.Clusters.{link, step_of, IsFront, IsTurn, IsSpeakable, coming, wants_coming, IsRefusedIn, IsSpent, IsSpentAs};
+ghost use Rattle.kt_node.specs.declared.cluster.ClusterFault.TheVariants as fault;
+ghost use Rattle.kt_node.specs.declared.node.NodeFault.TheVariants as of_node;
+ghost use Rattle.kt_node.specs.declared.faults.ManagerFault.TheVariants as of_manager;
 
 use super::{ClusterFault, ClusterStep, OnWay};
 use crate::node::{Node, Output};
@@ -119,6 +122,9 @@ fn take(
     ensures spent { (y : NodeState) → ShowsNode node.old.manager y →
         let es = link on_way.old.items from at in
         IsSpentAs (IsSpent node.old.clock (coming y (Take at from able) es) es) result }
+    ensures memory { (y : NodeState) → ShowsNode node.old.manager y →
+        IsErrOf result (fault.Node (of_node.Manager of_manager.Memory)) →
+        wants_coming y (coming y (Take at from able) (link on_way.old.items from at)) ≡ true }
     ensures room { vec_len on_way.new ≤ vec_len on_way.old }
     ensures capacity { vec_capacity on_way.new ≡ vec_capacity on_way.old }
     ensures err { OnErr result (IsSameNode node.new node.old) }
@@ -155,6 +161,10 @@ fn turn(
     ensures spent { (y : NodeState) → ShowsNode node.old.manager y →
         let x = step_of next.now in let es = link on_way.old.items (source_of x) (stepper x) in
         IsSpentAs (IsSpent node.old.clock (coming y x es) es) result }
+    ensures memory { (y : NodeState) → ShowsNode node.old.manager y →
+        IsErrOf result (fault.Node (of_node.Manager of_manager.Memory)) →
+        let x = step_of next.now in let es = link on_way.old.items (source_of x) (stepper x) in
+        wants_coming y (coming y x es) ≡ true }
     ensures room { vec_len on_way.new ≤ vec_len on_way.old }
     ensures capacity { vec_capacity on_way.new ≡ vec_capacity on_way.old }
     ensures err { OnErr result (IsSameNode node.new node.old) }
@@ -200,6 +210,11 @@ pub(super) fn turn_among(
         let x = step_of next.now in let p = stepper x in
         let es = link on_way.old.items (source_of x) p in let node = slice_index_or nodes.old.items p k in
         ShowsNode node.manager y → IsSpentAs (IsSpent node.clock (coming y x es) es) result }
+    ensures memory { (y : NodeState) (k : NodeLinks) →
+        let x = step_of next.now in let p = stepper x in
+        ShowsNode (slice_index_or nodes.old.items p k).manager y →
+        IsErrOf result (fault.Node (of_node.Manager of_manager.Memory)) →
+        wants_coming y (coming y x (link on_way.old.items (source_of x) p)) ≡ true }
     ensures others { (k : NodeLinks) → let p = stepper (step_of next.now) in
         nodes.new.items ≡ slice_set nodes.old.items p (slice_index_or nodes.new.items p k) }
     ensures room { vec_len on_way.new ≤ vec_len on_way.old }

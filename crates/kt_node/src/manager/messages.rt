@@ -12,7 +12,7 @@ ghost use Rattle.kt_manager.specs.declared.parcels.NodeParcel.TheVariants as sen
 ghost use Rattle.kt_node.specs.declared.faults.ManagerFault.TheVariants as fault;
 ghost use Rattle.kt_node.specs.Managers.{ShowsNode, IsSameManager, core_of};
 ghost use Rattle.kt_node.specs.Effects.{IsDone};
-ghost use Rattle.kt_node.specs.Faults.{fault_at, first_held, wants_room, wants_memory, IsRefusedAs};
+ghost use Rattle.kt_node.specs.Faults.{fault_at, first_held, wants_room, IsRefusedAs};
 
 use super::{Manager, sound};
 use crate::faults::ManagerFault;
@@ -62,8 +62,7 @@ impl Manager {
             OnOk result (IsDone self.new out.new (node_after y (Held from))) }
         ensures refused { (y : NodeState) → ShowsNode self.old y →
             IsRefusedAs (fault_at y (Held from)) result }
-        ensures memory { (y : NodeState) → ShowsNode self.old y →
-            IsErrOf result fault.Memory → wants_memory y (Held from) ≡ true }
+        ensures memory { IsErrOf result fault.Memory → ⊥ }
         ensures err { OnErr result (IsSameManager self.new self.old) }
         ensures out { OnErr result (out.new ≡ out.old) }
     {
@@ -105,7 +104,7 @@ impl Manager {
         ensures err { OnErr result (IsSameManager self.new self.old) }
         ensures out { OnErr result (out.new ≡ out.old) }
         ensures memory { (y : NodeState) → ShowsNode self.old y →
-            OnErr result (wants_room y from (sent.App label body) ≡ true) }
+            OnErr result (wants_room y (sent.App label body) ≡ true) }
     {
         let taken = self.core.take_message(from, label, body, out);
         sound(&self.core);

@@ -1,7 +1,8 @@
 //! Steps that have nothing to do with the object of their process.
 
-ghost use Rattle.std.specs.Prelude.{◌≡◌, ◌≢◌, ◌∷◌, ◌<◌, ◌+◌, ◌-◌, ◌^◌, ℕ, List, [], Some, None, true, false, length, slice_index_or, OnOk, IfOk, IfErr};
+ghost use Rattle.std.specs.Prelude.{◌≡◌, ◌≢◌, ◌<◌, ◌+◌, ◌-◌, ◌^◌, ℕ, List, [], Some, None, true, false, length, slice_index_or, OnOk, IfOk, IfErr};
 ghost use Rattle.std.specs.List.{AllZip};
+ghost use Rattle.kt_core.specs.Making.{no_give};
 ghost use Rattle.kt_core.specs.Shown.{Mirrors};
 ghost use Rattle.kt_core.specs.Worlds.{can_make, step_refusal};
 ghost use Rattle.kt_core.specs.declared.faults.StepFault.{StepFault};
@@ -16,11 +17,11 @@ ghost use Rattle.kt_run.specs.Runs.{told_and_held, Tells, StepsTo};
 
 use super::RunState;
 use crate::faults::RunFault;
-use crate::journals::Journals;
+use crate::journals::{Journals, process_of};
 use crate::laws::laws_of_runs;
-use kt_core::World;
+use kt_core::{StepFault, World};
 use kt_object::Recoverable;
-use kt_plan::{Act, Give, Look, Step};
+use kt_plan::{Act, Look, Step};
 
 impl RunState {
     /// Makes a step that is enabled; the process's object is asked and told only where the step has to do with it.
@@ -60,19 +61,32 @@ impl RunState {
             (λ b. content (kind_of (b.vtable, b.value)) (value_of (b.vtable, b.value))))) }
     {
         laws_of_runs();
-        let made = make_quietly(&mut self.world, &self.journals, &step)?;
-        if made {
-            self.done += 1;
-            return Ok(());
+        let mut acts = [Act::Nothing, Act::Nothing];
+        let made = make_plainly(&mut self.world, &self.journals, &step, &mut acts)?;
+        if !made {
+            return self.make_with_object(step);
         }
-        self.make_with_object(step)
+        let p = process_of(&step);
+        let Some(held) = self.objects.get_mut(p.index()) else {
+            return Err(RunFault::Step(self.done, StepFault::NotEnabled));
+        };
+        self.done += 1;
+        match held.obey(acts, None) {
+            Ok(()) => Ok(()),
+            Err(fault) => Err(RunFault::of_act(p, fault)),
+        }
     }
 }
 
-/// Makes a step that is enabled, where nothing is noted and it needs nothing of the process's object and asks nothing of it.
-/// Whether it did so; else nothing is done.
+/// Makes a step that is enabled, where nothing is noted and it needs nothing of the process's object, and tells what is to be
+/// done to that. Whether it did so; else nothing is done.
 #[inline(always)]
-fn make_quietly(world: &mut World, journals: &Journals, step: &Step) -> Result<bool, RunFault>
+fn make_plainly(
+    world: &mut World,
+    journals: &Journals,
+    step: &Step,
+    acts: &mut [Act; 2],
+) -> Result<bool, RunFault>
     requires { can_make world.old step.now ≡ true }
     ensures fault { IfErr result (λ fault. fault ≡ RunFault.Memory) }
     ensures plan { world.new.agenda.plan ≡ world.old.agenda.plan }
@@ -81,8 +95,9 @@ fn make_quietly(world: &mut World, journals: &Journals, step: &Step) -> Result<b
     ensures unkept { IfOk result (λ made. made ≡ true → journals.now ≡ []) }
     ensures look { IfOk result (λ made. made ≡ true → (first : ℕ) (v : Progress) →
         Mirrors world.old.agenda world.old.system first v → look world.old.agenda.plan v step.now ≡ Look.Plain) }
-    ensures leads { IfOk result (λ made. made ≡ true → (give : Give) → give.able ≡ false →
-        Tells world.old [] step.now give world.new [] (Act.Nothing ∷ Act.Nothing ∷ [])) }
+    ensures allowed { IfOk result (λ made. made ≡ true → step_refusal world.old step.now ≡ None) }
+    ensures leads { IfOk result (λ made. made ≡ true →
+        Tells world.old [] step.now no_give world.new [] acts.new) }
 {
     laws_of_runs();
     if journals.are_kept() {
@@ -90,7 +105,7 @@ fn make_quietly(world: &mut World, journals: &Journals, step: &Step) -> Result<b
     }
     match *step {
         Step::Do(_) => Ok(false),
-        Step::Take { at, from } => match world.take_quietly(at, from) {
+        Step::Take { at, from } => match world.take_plainly(at, from, acts) {
             Ok(made) => Ok(made),
             Err(_) => Err(RunFault::Memory),
         },

@@ -1,22 +1,26 @@
 //! How many takes there are, and the one at a place among them.
 
 ghost use Rattle.std.specs.Prelude.{◌≡◌, ◌<◌, ◌≤◌, ◌↔◌, ℕ, true, [], IsTrue, IfSome, IfNone};
-ghost use Rattle.kt_fifo.specs.Channels.{channel};
 ghost use Rattle.kt_fifo.specs.Counts.{count_first};
 ghost use Rattle.kt_system.specs.Counts.{takes_in, IsTakeAt};
 ghost use Rattle.kt_system.specs.Reads.{can_take};
+ghost use Rattle.kt_system.specs.Systems.{held_in};
 
 use super::System;
-use super::reads::is_empty;
 use kt_base::ProcNo;
 use kt_fifo::member_at;
 
 impl System {
     /// Whether no parcel is held for any process.
     pub fn holds_none(&self) -> bool
-        ensures { IsTrue result ↔ ((p q : ℕ) → channel self.now.held p q ≡ []) }
+        ensures all { IsTrue result ↔ ((p q : ℕ) → held_in self.now p q ≡ []) }
+        ensures within { ((p q : ℕ) → p < self.now.size → q < self.now.size → held_in self.now p q ≡ []) → IsTrue result }
     {
-        is_empty(&self.held)
+        let Some(p) = self.holders.first() else {
+            return true;
+        };
+        let _sound = self.manager(p).inbox();
+        false
     }
 
     /// Of how many processes one can take a parcel.
@@ -47,7 +51,7 @@ impl System {
     /// How many takes there are, where no parcel is held.
     #[inline(always)]
     pub fn takes(&self) -> usize
-        requires { (p q : ℕ) → channel self.now.held p q ≡ [] }
+        requires { (p q : ℕ) → held_in self.now p q ≡ [] }
         ensures { result ≡ takes_in self.now }
     {
         self.channels.busy_pairs()
@@ -56,7 +60,7 @@ impl System {
     /// The take at a place among all, where no parcel is held: who takes, and of whom.
     #[inline(always)]
     pub fn take_at(&self, place: usize) -> Option<(ProcNo, ProcNo)>
-        requires { (p q : ℕ) → channel self.now.held p q ≡ [] }
+        requires { (p q : ℕ) → held_in self.now p q ≡ [] }
         ensures some { IfSome result (λ take. IsTakeAt self.now take.0 take.1 place) }
         ensures none { IfNone result (takes_in self.now ≤ place) }
     {

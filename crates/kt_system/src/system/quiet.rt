@@ -1,6 +1,6 @@
 //! Takes that need nothing of their process's object, and ask nothing of it.
 
-ghost use Rattle.std.specs.Prelude.{◌≡◌, true, false, [], OnErr, IfOk};
+ghost use Rattle.std.specs.Prelude.{◌≡◌, ◌<◌, ◌==◌, true, false, [], OnErr, IfOk};
 ghost use Rattle.kt_protocol.specs.States.{Take as TakeStep};
 ghost use Rattle.kt_machine.specs.Seen.{Seen};
 ghost use Rattle.kt_machine.specs.Transition.{transition};
@@ -8,12 +8,13 @@ ghost use Rattle.kt_machine.specs.SeenActs.{seen_acts};
 ghost use Rattle.kt_system.specs.Keeps.{CanStep};
 ghost use Rattle.kt_system.specs.Reads.{would_save};
 ghost use Rattle.kt_system.specs.Shown.{ShowsState};
+ghost use Rattle.kt_system.specs.Steps.{IsFront};
 ghost use Rattle.kt_system.specs.Systems.{IsSameSystem, LogGrows};
+ghost use Rattle.kt_system.specs.Takes.{is_held};
 ghost use Rattle.kt_system.specs.Tallies.{TalliesPut, taken_off};
 
 use super::System;
-use super::messages::NO_ACTS;
-use kt_base::{Kind, Memory, ProcNo};
+use kt_base::{InstNo, Kind, Memory, ProcNo};
 use kt_fifo::Parcel;
 use std::alloc::Global;
 
@@ -35,40 +36,52 @@ impl System {
         ensures tallies { IfOk result (λ made. made ≡ true → TalliesPut (taken_off self.old at from) self.old self.new) }
         ensures shows { IfOk result (λ made. made ≡ true → (v : Seen) → ShowsState self.old v → ShowsState self.new (transition v (TakeStep at from false))) }
     {
-        if self.takes_held(at) {
+        if self.takes_held(at, from) {
             return Ok(false);
         }
-        let Some(parcel) = self.channels.front(from, at).copied() else {
+        let Some(parcel) = self.front(at, from) else {
             return Ok(false);
         };
+        if !self.is_quiet_parcel(at, from, &parcel) {
+            return Ok(false);
+        }
+        self.make_room()?;
+        self.take_front(alloc, at, from, parcel, false)?;
+        Ok(true)
+    }
+
+    /// Whether a process that takes this parcel, the front of a channel, needs nothing of its object and asks nothing of it,
+    /// as far as is known at once.
+    #[inline(always)]
+    fn is_quiet_parcel(&self, at: ProcNo, from: ProcNo, parcel: &Parcel) -> bool
+        requires at { at < self.now.size }
+        requires from { from < self.now.size }
+        requires first { is_held self.now at from ≡ false }
+        requires front { IsFront self.now at from parcel.now }
+        ensures plain { result ≡ true → would_save self.now at from ≡ false }
+        ensures acts { result ≡ true → (v : Seen) → ShowsState self.now v → seen_acts v (TakeStep at from false) ≡ [] }
+        ensures calls { result ≡ true → (v : Seen) → ShowsState self.now v →
+            ((transition v (TakeStep at from false)).states at).calls ≡ (v.states at).calls }
+    {
         match parcel {
-            Parcel::App { .. } => Ok(false),
-            Parcel::Ask { inst, kind, label } => match kind {
-                Kind::Rollback => Ok(false),
-                Kind::Checkpoint => {
-                    if self.would_save(at, from) {
-                        return Ok(false);
-                    }
-                    let mut acts = NO_ACTS;
-                    self.take_ask_to_save(alloc, at, from, inst, label, false, &mut acts)?;
-                    Ok(true)
-                }
+            Parcel::App { .. } => false,
+            Parcel::Ask { kind, .. } => match kind {
+                Kind::Rollback => false,
+                Kind::Checkpoint => !self.would_save(at, from),
             },
-            Parcel::Reply { willing, .. } => {
-                if self.awaited(at) == 1 {
-                    return Ok(false);
-                }
-                self.pop(at, from);
-                let _action = self.hear_reply(at, willing);
-                Ok(true)
-            }
-            Parcel::Decide { inst, .. } => {
-                if self.is_in(at, inst) {
-                    return Ok(false);
-                }
-                self.pop(at, from);
-                Ok(true)
-            }
+            Parcel::Reply { .. } => self.awaited(at) != 1,
+            Parcel::Decide { inst, .. } => !self.is_in(at, *inst),
+        }
+    }
+
+    /// Whether a process is in this instance.
+    fn is_in(&self, p: ProcNo, inst: InstNo) -> bool
+        requires { p < self.now.size }
+        ensures { (v : Seen) → ShowsState self.now v → result ≡ ((v.states p).inst == inst) }
+    {
+        match self.in_inst(p) {
+            Some(current) => current.get() == inst.get(),
+            None => false,
         }
     }
 }

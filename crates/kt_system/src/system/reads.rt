@@ -1,30 +1,45 @@
 //! What can be read of a system.
 
-ghost use Rattle.std.specs.Prelude.{◌≡◌, ◌<◌, ◌≤◌, ◌^◌, ◌-◌, ◌↔◌, ◌&&◌, [], ℕ, true, false, IsTrue, IfSome, IfNone, length, is_none};
+ghost use Rattle.std.specs.Prelude.{◌≡◌, ◌<◌, ◌≤◌, ◌^◌, ◌-◌, ◌↔◌, ◌&&◌, ℕ, true, false, [], None, IsTrue, IfSome, IfNone, length, slice_get, is_none};
 ghost use Rattle.std.specs.List.{list_all};
-ghost use Rattle.std.specs.Option.{option_copied};
 ghost use Rattle.kt_base.specs.declared.words.Kind.TheVariants as kind;
 ghost use Rattle.kt_fifo.specs.Channels.{channel};
 ghost use Rattle.kt_process.specs.ProcessStates.{ProcessState, part_of_side, is_ready, inst_of, IsNumbered};
 ghost use Rattle.kt_process.specs.Turns.{joins_by};
-ghost use Rattle.kt_system.specs.Systems.{state_of};
+ghost use Rattle.kt_manager.specs.Managers.{ManagerState, size_of};
+ghost use Rattle.kt_system.specs.Systems.{manager_of, process_in, state_of};
+ghost use Rattle.kt_system.specs.Steps.{IsFront};
 ghost use Rattle.kt_system.specs.Takes.{is_held};
-ghost use Rattle.kt_system.specs.Reads.{tally_of, awaited_of, held_parcel, next_parcel, can_take, saves_by, would_save, IsQuietSystem};
+ghost use Rattle.kt_system.specs.Reads.{tally_of, awaited_of, can_take, saves_by, would_save, IsQuietSystem};
 
 use super::{System, Tally};
+use crate::names::number_of;
 use kt_base::{InstNo, Kind, Label, ProcNo};
-use kt_fifo::{Channels, Parcel};
-use kt_process::Process;
+use kt_fifo::Parcel;
+use kt_manager::Manager;
 use kt_spacetime::SpaceTime;
 
 impl System {
     /// How many processes there are: each process that a call names is below this number.
+    #[tactic(auto, using(crate::proofs::Managed::numbered_for))]
     pub fn processes(&self) -> usize
         ensures processes { result ≡ self.now.size }
         ensures few { result ≤ 64 }
+        ensures managers { length self.now.managers ≡ self.now.size }
+        ensures channels { self.now.channels.processes ≡ self.now.size }
         ensures numbered { (p : ℕ) → p < self.now.size → IsNumbered (part_of_side (state_of self.now p).side) }
     {
-        self.channels.processes()
+        self.managers.len()
+    }
+
+    /// A manager.
+    #[inline(always)]
+    pub(super) fn manager(&self, p: ProcNo) -> &Manager
+        requires { p < self.now.size }
+        ensures manager { result.now ≡ manager_of self.now p }
+        ensures size { size_of result.now ≡ self.now.size }
+    {
+        &self.managers[p.index()]
     }
 
     /// The log.
@@ -42,12 +57,16 @@ impl System {
     }
 
     /// The instance that a process is in.
+    #[tactic(auto, using(crate::proofs::Managed::numbered_for, crate::proofs::Managed::outside_for, crate::proofs::Managed::alone_for, crate::proofs::Managed::inst_for))]
     pub fn in_inst(&self, p: ProcNo) -> Option<InstNo>
         requires { p < self.now.size }
         ensures inst { result ≡ inst_of (state_of self.now p).side }
         ensures numbered { IsNumbered (part_of_side (state_of self.now p).side) }
     {
-        self.process(p).in_inst()
+        let manager = self.manager(p);
+        let inst = manager.in_inst()?;
+        manager.process().in_inst()?;
+        Some(number_of(&inst))
     }
 
     /// Whether a process's object is up.
@@ -55,27 +74,30 @@ impl System {
         requires { p < self.now.size }
         ensures { result ≡ (state_of self.now p).up }
     {
-        self.process(p).is_up()
+        self.manager(p).is_up()
     }
 
     /// How many replies a process awaits in the instance that it is in; 0 where it is in none.
+    #[tactic(auto, using(crate::proofs::Managed::awaits_none, crate::proofs::Managed::awaits_for))]
     pub fn awaited(&self, p: ProcNo) -> u32
         requires { p < self.now.size }
         ensures { result ≡ awaited_of (part_of_side (state_of self.now p).side) }
     {
-        match self.process(p).part() {
-            Some(part) => part.awaited(),
-            None => 0,
+        let manager = self.manager(p);
+        if manager.in_inst().is_none() {
+            return 0;
         }
+        manager.awaited()
     }
 
     /// Whether a process is in a rollback.
+    #[tactic(auto, using(crate::proofs::Managed::ready_for, crate::proofs::Managed::numbered_for))]
     pub fn is_ready(&self, p: ProcNo) -> bool
         requires { p < self.now.size }
         ensures ready { result ≡ is_ready (state_of self.now p).side }
         ensures numbered { IsNumbered (part_of_side (state_of self.now p).side) }
     {
-        self.process(p).is_ready()
+        self.manager(p).is_in_rollback()
     }
 
     /// Whether the greatest label of a process was given, so that it can't send any more.
@@ -83,14 +105,14 @@ impl System {
         requires { p < self.now.size }
         ensures { IsTrue result ↔ (2 ^ 48 - 1 ≤ (state_of self.now p).used) }
     {
-        self.process(p).is_spent()
+        self.manager(p).process().is_spent()
     }
 
     /// How many parcels are in the channel from one process to another; 0 where one of them is not there.
     pub fn in_flight(&self, from: ProcNo, to: ProcNo) -> usize
         ensures { result ≡ length (channel self.now.channels from to) }
     {
-        let processes = self.channels.processes();
+        let processes = self.processes();
         if from.index() < processes && to.index() < processes {
             self.channels.len(from, to)
         } else {
@@ -112,50 +134,15 @@ impl System {
         }
     }
 
-    /// Whether a process takes what is held for it: it is in no rollback, and something is held. Mostly nothing is held for
-    /// any process, which is asked first.
-    #[tactic(auto, using(crate::proofs::Saving::ready_held))]
-    pub(super) fn takes_held(&self, at: ProcNo) -> bool
-        requires { at < self.now.size }
-        ensures some { result ≡ true → is_ready (state_of self.now at).side ≡ false }
-        ensures none { result ≡ false → (from : ℕ) → is_held self.now at from ≡ false }
-        ensures numbered { IsNumbered (part_of_side (state_of self.now at).side) }
-    {
-        let _count = self.processes();
-        if self.holds_none() {
-            return false;
-        }
-        !self.is_ready(at)
-    }
-
-    /// The first parcel of another process that is held for this one, where it is in no rollback.
-    pub(super) fn held_parcel(&self, at: ProcNo, from: ProcNo) -> Option<Parcel>
+    /// Whether a process takes a message of another one that it holds: it is in no rollback, and holds one.
+    #[inline(always)]
+    #[tactic(auto, using(crate::proofs::Managed::holds_is, crate::proofs::Managed::ready_for))]
+    pub(super) fn takes_held(&self, at: ProcNo, from: ProcNo) -> bool
         requires at { at < self.now.size }
-        requires from { from < self.now.size }
-        ensures parcel { result ≡ held_parcel self.now at from }
-        ensures numbered { IsNumbered (part_of_side (state_of self.now at).side) }
+        ensures { result ≡ is_held self.now at from }
     {
-        if !self.takes_held(at) {
-            return None;
-        }
-        self.held.front(from, at).copied()
-    }
-
-    /// The parcel that a process would take next from another one: the first that is held, where it is in no rollback,
-    /// else the front of the channel.
-    #[tactic(auto, using(crate::proofs::Saving::next_unheld, crate::proofs::Saving::next_held, crate::proofs::Saving::next_sent))]
-    fn next_front(&self, at: ProcNo, from: ProcNo) -> Option<&Parcel>
-        requires at { at < self.now.size }
-        requires from { from < self.now.size }
-        ensures { option_copied result ≡ next_parcel self.now at from }
-    {
-        if !self.takes_held(at) {
-            return self.channels.front(from, at);
-        }
-        match self.held.front(from, at) {
-            Some(parcel) => Some(parcel),
-            None => self.channels.front(from, at),
-        }
+        let manager = self.manager(at);
+        manager.holds(from) && !manager.is_in_rollback()
     }
 
     /// Whether a process can take a parcel of another one.
@@ -176,10 +163,20 @@ impl System {
         self.is_up(p) && self.in_inst(p).is_none()
     }
 
+    /// The front of the channel from another process.
+    pub(super) fn front(&self, at: ProcNo, from: ProcNo) -> Option<Parcel>
+        requires at { at < self.now.size }
+        requires from { from < self.now.size }
+        ensures some { IfSome result (λ parcel. IsFront self.now at from parcel) }
+        ensures none { IfNone result (slice_get (channel self.now.channels from at) 0 ≡ None) }
+    {
+        self.channels.front(from, at).copied()
+    }
+
     /// Whether the next parcel from another process makes this one take its tentative checkpoint, if its object can be
     /// saved.
     #[inline(always)]
-    #[tactic(auto, using(crate::proofs::Saving::no_save))]
+    #[tactic(auto, using(crate::proofs::Saving::no_save, crate::proofs::Saving::held_saves, crate::proofs::Saving::next_unheld))]
     pub fn would_save(&self, at: ProcNo, from: ProcNo) -> bool
         requires at { at < self.now.size }
         requires from { from < self.now.size }
@@ -188,45 +185,65 @@ impl System {
         if !self.may_save(at) {
             return false;
         }
-        match self.next_front(at, from) {
-            Some(parcel) => saves_by(self.process(at), from, parcel),
+        if self.takes_held(at, from) {
+            return false;
+        }
+        match self.channels.front(from, at) {
+            Some(parcel) => self.saves_by(at, from, parcel),
             None => false,
         }
     }
 
+    /// Whether a parcel makes a process take its tentative checkpoint, if its object can be saved, where it may take one.
+    #[tactic(auto, using(crate::proofs::Saving::joins_if))]
+    fn saves_by(&self, at: ProcNo, from: ProcNo, parcel: &Parcel) -> bool
+        requires at { at < self.now.size }
+        requires from { from < self.now.size }
+        requires may { ((state_of self.now at).up && is_none (inst_of (state_of self.now at).side)) ≡ true }
+        ensures { result ≡ saves_by (state_of self.now at) from parcel.now }
+    {
+        let Some(label) = label_of_ask_to_save(parcel) else {
+            return false;
+        };
+        let tables = self.manager(at).process().tables();
+        tables.must_take(from, label)
+    }
+
     /// Whether no process is in an instance.
     fn all_outside(&self) -> bool
-        ensures { result ≡ list_all (λ (x : ProcessState). is_none (inst_of x.side)) self.now.states }
+        ensures { result ≡ list_all (λ (m : ManagerState). is_none (inst_of (process_in m).side)) self.now.managers }
     {
-        self.processes
-            .iter()
-            .all(|process| process.in_inst().is_none())
+        self.managers.iter().all(is_outside)
+    }
+
+    /// Whether no parcel is in any channel.
+    fn sends_none(&self) -> bool
+        ensures { IsTrue result ↔ ((p q : ℕ) → channel self.now.channels p q ≡ []) }
+    {
+        self.channels.receivers().first().is_none()
     }
 
     /// Whether no parcel is in a channel or held, and no process in an instance.
     pub fn is_quiet(&self) -> bool
         ensures { IsTrue result ↔ IsQuietSystem self.now }
     {
-        is_empty(&self.channels) && is_empty(&self.held) && self.all_outside()
+        let _processes = self.processes();
+        if !self.sends_none() {
+            return false;
+        }
+        if !self.holds_none() {
+            return false;
+        }
+        self.all_outside()
     }
 }
 
-/// Whether no parcel is in any list.
-pub(super) fn is_empty(channels: &Channels) -> bool
-    ensures { IsTrue result ↔ ((p q : ℕ) → channel channels.now p q ≡ []) }
+/// Whether a manager is in no instance.
+#[tactic(auto, using(crate::proofs::Managed::outside_for, crate::proofs::Managed::alone_for, crate::proofs::Managed::inst_for))]
+fn is_outside(manager: &Manager) -> bool
+    ensures { result ≡ is_none (inst_of (process_in manager.now).side) }
 {
-    channels.receivers().first().is_none()
-}
-
-/// Whether a parcel makes a process take its tentative checkpoint, if its object can be saved.
-fn saves_by(process: &Process, from: ProcNo, parcel: &Parcel) -> bool
-    requires { from < process.now.tables.processes }
-    ensures { result ≡ saves_by process.now from parcel.now }
-{
-    let Some(label) = label_of_ask_to_save(parcel) else {
-        return false;
-    };
-    process.joins_checkpoint(true, from, label)
+    manager.in_inst().is_none() || manager.process().in_inst().is_none()
 }
 
 /// The label of an ask to take part in a checkpoint, if a parcel is one.

@@ -5,6 +5,7 @@ ghost use Rattle.kt_base.specs.Sets.{has};
 ghost use Rattle.kt_fifo.specs.Channels.{channel};
 ghost use Rattle.kt_fifo.specs.Queues.{has_parcel};
 ghost use Rattle.kt_system.specs.Reads.{can_take, IsNextTake, HasNoTake};
+ghost use Rattle.kt_system.specs.Systems.{held_in};
 ghost use Rattle.kt_system.specs.Takes.{is_sent, is_held, WithSome, IsFirstNumber, lesser};
 
 use super::System;
@@ -16,15 +17,12 @@ impl System {
         ensures within { IfSome result (λ at. at < self.now.size) }
         ensures first { IsFirstNumber (WithSome (is_held self.now)) result }
     {
-        let receivers = self.held.receivers();
-        if receivers.first().is_none() {
-            return None;
-        }
-        for number in 0..self.processes() as u8 {
-            let at = ProcNo::nth(number);
-            if receivers.has(at) && !self.is_ready(at) {
+        let mut rest = self.holders;
+        while let Some(at) = rest.first() {
+            if !self.is_ready(at) {
                 return Some(at);
             }
+            rest = rest.without(at);
         }
         None
     }
@@ -60,10 +58,10 @@ impl System {
         ensures held { (q : ℕ) → has result q ≡ is_held self.now at q }
         ensures within { (q : ℕ) → has result q ≡ true → q < self.now.size }
     {
-        if !self.takes_held(at) {
+        if !self.holders.has(at) || self.is_ready(at) {
             return ProcSet::empty();
         }
-        self.held.senders(at)
+        self.manager(at).inbox().holds()
     }
 
     /// The least process from which one can take a parcel.
@@ -73,7 +71,7 @@ impl System {
         ensures first { IsFirstNumber (λ from. can_take self.now at from ≡ true) result }
     {
         let sent = self.senders(at).first();
-        if !self.takes_held(at) {
+        if !self.holders.has(at) {
             return sent;
         }
         least(sent, self.held_senders(at).first())
@@ -91,16 +89,17 @@ impl System {
     /// The processes to which parcels are in channels or held: no other one can take a parcel.
     pub fn receivers(&self) -> ProcSet
         ensures some { (at : ℕ) → has result at ≡ true → (from : ℕ) ×
-            ((has_parcel (channel self.now.channels from at) || has_parcel (channel self.now.held from at)) ≡ true) }
+            ((has_parcel (channel self.now.channels from at) || has_parcel (held_in self.now from at)) ≡ true) }
         ensures none { (at from : ℕ) → has result at ≡ false →
-            (channel self.now.channels from at ≡ []) × (channel self.now.held from at ≡ []) }
+            (channel self.now.channels from at ≡ []) × (held_in self.now from at ≡ []) }
         ensures others { (at from : ℕ) → has result at ≡ false → can_take self.now at from ≡ false }
         ensures within { (at : ℕ) → has result at ≡ true → at < self.now.size }
     {
-        joined(self.channels.receivers(), self.held.receivers())
+        joined(self.channels.receivers(), self.holders)
     }
 
     /// The least process that can take a parcel, and the least from which it can.
+    #[inline(always)]
     pub fn next_take(&self) -> Option<(ProcNo, ProcNo)>
         ensures some { IfSome result (λ take. IsNextTake self.now take.0 take.1) }
         ensures none { IfNone result (HasNoTake self.now) }
@@ -131,15 +130,17 @@ fn joined(first: ProcSet, second: ProcSet) -> ProcSet
 fn least(first: Option<ProcNo>, second: Option<ProcNo>) -> Option<ProcNo>
     ensures { result ≡ lesser first second }
 {
-    match (first, second) {
-        (Some(one), Some(other)) => {
+    let Some(other) = second else {
+        return first;
+    };
+    match first {
+        Some(one) => {
             if one.get() <= other.get() {
                 Some(one)
             } else {
                 Some(other)
             }
         }
-        (Some(one), None) => Some(one),
-        (None, other) => other,
+        None => Some(other),
     }
 }

@@ -1,7 +1,5 @@
-use Rattle.std.proofs.Common.{◌≡◌, ℕ, sym, subst, take, List, ◌++◌, ◌∷◌, []}
+use Rattle.std.proofs.Common.{take}
 use Rattle.std.proofs.lemmas.List.{take_more}
-use Rattle.kt_base.specs.Sets.{has}
-use Rattle.kt_process.specs.Asks.{is_asked_in}
 use Rattle.kt_process.proofs.Targets.{target_more}
 use Rattle.kt_process.proofs.asks.targets_of.Goals as goal
 

@@ -1,4 +1,4 @@
-use Rattle.std.proofs.Common.{◌≡◌, true, refl, sym, ◌∙◌}
+use Rattle.std.proofs.Common.{◌≡◌, refl, sym, ◌∙◌}
 use Rattle.kt_process.specs.CheckpointRules.{must_join}
 use Rattle.kt_process.proofs.CheckpointRulings.{outside, refused}
 use Rattle.kt_process.proofs.checkpoint.answer.Goals as goal

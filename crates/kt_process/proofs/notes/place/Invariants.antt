@@ -1,5 +1,5 @@
 use Rattle.std.proofs.Common.{◌≡◌, ◌+◌, drop}
-use Rattle.kt_tables.specs.Walks.{place_of}
+use Rattle.kt_process.specs.Notes.{place_of}
 use Rattle.kt_process.proofs.notes.place.Given as goal
 
 abbrev pub invariant-loop-place : goal.invariant-loop-place

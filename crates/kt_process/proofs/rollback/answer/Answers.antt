@@ -7,7 +7,7 @@ pub returns-then-not-must_roll-clause-rule : goal.returns-then-not-must_roll-cla
 unfolding must_join
 returns-then-not-must_roll-clause-rule c = λ calls h.
     let must : c.must_roll.result ≡ must_join calls c.args.from c.args.label = c.must_roll.ensures.test calls h in
-    rw c.willing.ensures (refl, outside c.args.standing.in_inst c.args.inst _ c.must_roll.result (cc) must (cc))
+    rw (c.action-then-not-must_roll.ensures, c.willing.ensures) (refl, outside c.args.standing.in_inst c.args.inst _ c.must_roll.result (cc) must (cc))
 
 pub returns-clause-rule : goal.returns-clause-rule
 unfolding must_join

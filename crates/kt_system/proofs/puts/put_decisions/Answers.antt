@@ -1,11 +1,11 @@
-use Rattle.std.proofs.Common.{◌∙◌, ◌<◌, ap, sym, refl, inl, inr, rules}
+use Rattle.std.proofs.Common.{◌∙◌, ◌<◌, ap, arith, sym, refl, inl, inr, rules}
 use Rattle.std.proofs.lemmas.Bool.{cases_eq}
-use Rattle.kt_base.specs.Sets.{has}
+use Rattle.kt_base.specs.Sets.{has, count_of}
 use Rattle.kt_fifo.specs.declared.parcels.Parcel.TheVariants.{Decide}
-use Rattle.kt_fifo.specs.Channels.{channel, spare_of}
+use Rattle.kt_fifo.specs.Channels.{channel}
 use Rattle.kt_machine.specs.Seen.{SeenLists}
-use Rattle.kt_system.proofs.Rest.{fewer}
-use Rattle.kt_system.proofs.Telling.{put, told_none, told_one, told_all, room_told}
+use Rattle.kt_manager.proofs.Rest.{fewer, has_some_left}
+use Rattle.kt_system.proofs.Telling.{put, told_none, told_one, told_all}
 use Rattle.kt_system.proofs.puts.put_decisions.Goals as goal
 
 pub loop-to-init : goal.loop-to-init
@@ -13,8 +13,15 @@ loop-to-init c = record {
   processes = refl;
   lists = told_none (channel c.args.channels.now) c.args.p c.args.inst c.args.commit (has c.args.tell);
   rest = λ q h. h;
-  room = λ q h. c.requires.room q h;
+  room = c.requires.room;
 }
+
+pub push_reserved-requires-clause-room : goal.push_reserved-requires-clause-room
+push_reserved-requires-clause-room c =
+    let few : c.in-Some.to < 64 = search rules in
+    let some = has_some_left c.loop-to.rest c.in-Some.to few c.in-Some.ensures.member in
+    let room = c.loop-to.invariant.room in
+    omega (arith, some, room)
 
 pub loop-to-smaller : goal.loop-to-smaller
 loop-to-smaller c =
@@ -27,6 +34,7 @@ loop-to-preserved c =
     let e = c.push_reserved.ensures in
     let to = c.in-Some.to in
     let w = c.without-rest.ensures in
+    let few : to < 64 = search rules in
     record {
       processes = e.processes ∙ i.processes;
       lists =
@@ -37,7 +45,11 @@ loop-to-preserved c =
         | inl same ↦ rw (same) (i.rest to c.in-Some.ensures.member)
         | inr other ↦ i.rest q (sym (w.others q other) ∙ h)
       ];
-      room = room_told (spare_of c.loop-to.channels) (spare_of c.push_reserved.new.self) c.args.p to (has c.loop-to.rest) (has c.without-rest.result) w.removed w.others e.spare i.room;
+      room =
+          let less = fewer c.loop-to.rest c.without-rest.result to few c.in-Some.ensures.member w.removed w.others in
+          let room = i.room in
+          let spare = e.spare in
+          omega (arith, less, room, spare);
     }
 
 pub returns-clause-lists : goal.returns-clause-lists

@@ -10,7 +10,7 @@ invariant-loop-to l = record {
   processes : l.channels.processes ≡ l.fn.channels.processes;
   lists : channel l.channels ≡ with_decisions (channel l.fn.channels) l.p l.inst l.commit (λ q. has l.fn.tell q && not (has l.rest q));
   rest : (q : ℕ) → has l.rest q ≡ true → has l.fn.tell q ≡ true;
-  room : (q : ℕ) → has l.rest q ≡ true → 1 ≤ spare_of l.channels l.p q;
+  room : count_of l.rest ≤ spare_of l.channels;
 }
 
 abbrev pub decreases-loop-to : goal.decreases-loop-to

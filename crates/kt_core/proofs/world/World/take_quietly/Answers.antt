@@ -1,4 +1,4 @@
-use Rattle.std.proofs.Common.{◌≡◌, ℕ, Bool, None, true, false, length, refl, ap, subst, sym, ◌∙◌, [], ◌∷◌, List}
+use Rattle.std.proofs.Common.{◌≡◌, ℕ, Bool, None, true, false, length, ap, subst, sym, ◌∙◌, [], ◌∷◌, List}
 use Rattle.kt_plan.specs.Limits.{Planned}
 use Rattle.kt_plan.specs.declared.steps.Act.TheVariants as act
 use Rattle.kt_plan.specs.declared.steps.Give.{Give}
@@ -11,27 +11,18 @@ use Rattle.kt_machine.specs.SeenActs.{seen_acts}
 use Rattle.kt_machine.specs.Values.{Act}
 use Rattle.kt_system.specs.Shown.{ShowsState}
 use Rattle.kt_system.specs.Systems.{Whole}
-use Rattle.kt_system.specs.Reads.{would_save}
-use Rattle.kt_promises.specs.Looks.{look}
 use Rattle.kt_promises.specs.Progress.{Progress}
 use Rattle.kt_promises.specs.Steps.{enabled, progress_after}
 use Rattle.kt_promises.specs.Tallies.{tallies_after}
-use Rattle.kt_core.specs.Agendas.{Agenda}
 use Rattle.kt_core.specs.Shown.{Mirrors}
 use Rattle.kt_core.specs.Making.{MakesStep}
-use Rattle.kt_core.specs.Worlds.{World, IsWorld, can_make, is_full, needs, step_refusal}
+use Rattle.kt_core.specs.Worlds.{World, IsWorld, can_make, needs, step_refusal}
 use Rattle.kt_core.proofs.Enabled.{enabled_is}
 use Rattle.kt_core.proofs.Looks.{look_is}
 use Rattle.kt_core.proofs.Making.{makes_step}
+use Rattle.kt_core.proofs.Quieting.{not_refused, needs_nothing}
 use Rattle.kt_core.proofs.Leading.{take_acts, take_leads, take_puts, run_same, puts_same}
 use Rattle.kt_core.proofs.world.World.take_quietly.Goals as goal
-
--- a take that can be made is not refused, and needs nothing where nothing is saved
-not_refused : (w : World) (at from : ℕ) → can_make w (Take at from) ≡ true → is_full w ≡ false → step_refusal w (Take at from) ≡ None
-not_refused w at from can free = rw (can, free) refl
-
-needs_nothing : (w : World) (at from : ℕ) → can_make w (Take at from) ≡ true → would_save w.system at from ≡ false → needs w (Take at from) ≡ Plain
-needs_nothing w at from can none = rw (can, none) refl
 
 pub invariant_of-self : goal.invariant_of-self
 invariant_of-self c =

@@ -15,17 +15,17 @@ use Rattle.kt_manager.proofs.Beginning.{joined_node, go_joined}
 use Rattle.kt_manager.proofs.Hearing.{done_reply, hears_join}
 use Rattle.kt_manager.proofs.manager.Manager.answer.Goals as goal
 
-pub returns-in-Reply : goal.returns-in-Reply
-returns-in-Reply c = λ y able h i s.
+pub returns-in-Reply-clause-done : goal.returns-in-Reply-clause-done
+returns-in-Reply-clause-done c = λ y able h i s.
     let kind = c.args.ask.now.kind in
     let k = c.args.ask.now.inst in
     let label = c.args.ask.now.label in
     let t = subst (λ (a : Action). HearsAs kind (able_in kind able) y.processes c.args.from (number_for y.inst k) label (marks_in kind y) (process_of y) c.args.self.now.process a) c.in-Reply.is s in
-    let told = c.tell_unwilling.ensures in
-    done_reply c.args.self.now c.put.new.self y kind c.args.from k label able c.in-Reply.willing c.in-Reply.cause h i (c.put.ensures.rows ∙ told.rows) (c.put.ensures.acts ∙ told.acts) c.put.ensures.parcels t.1 t.2
+    let told = c.reply.ensures in
+    done_reply c.args.self.now c.reply.new.out y kind c.args.from k label able c.in-Reply.willing c.in-Reply.cause h i told.rows told.acts told.parcels t.1 t.2
 
-pub returns-in-Join : goal.returns-in-Join
-returns-in-Join c = λ y able h i s.
+pub returns-in-Join-clause-done : goal.returns-in-Join-clause-done
+returns-in-Join-clause-done c = λ y able h i s.
     let kind = c.args.ask.now.kind in
     let k = c.args.ask.now.inst in
     let label = c.args.ask.now.label in
@@ -36,4 +36,4 @@ returns-in-Join c = λ y able h i s.
     let joined = subst (λ (n : ℕ). IsProcessJoined kind y.processes n (Some from) (marks_in kind y) noted (process_of y) c.args.self.now.process c.in-Join.asks c.in-Join.goes) (ap (λ (o : Option InstName). number_for o k) j.0) t.1 in
     subst (λ (d : Doing). IsDone c.join.new.self c.join.new.out d)
     (ap (λ (e : Told). settling k (joined_in k kind (label_by kind y.calls) e.rows (joined_node kind k (Some from) noted y))) c.clear.ensures.told ∙ j.1)
-    (go_joined kind k (Some from) noted y c.args.self.now c.in-Join.asks c.in-Join.goes c.clear.new.self.rows (λ (d : Doing). IsDone c.join.new.self c.join.new.out d) c.join.ensures h joined)
+    (go_joined kind k (Some from) noted y c.args.self.now c.in-Join.asks c.in-Join.goes c.clear.new.self.rows (λ (d : Doing). IsDone c.join.new.self c.join.new.out d) c.join.ensures.done h joined)

@@ -7,8 +7,8 @@ use Rattle.kt_manager.proofs.Processes.{shows_inside}
 use Rattle.kt_manager.proofs.Telling.{done_closed}
 use Rattle.kt_manager.proofs.manager.Manager.close.Goals as goal
 
-pub returns : goal.returns
-returns c = λ d done there.
+pub returns-clause-done : goal.returns-clause-done
+returns-clause-done c = λ d done there.
     let i = shows_inside _ _ d.state c.self.view_is done.state in
     let roll = c.is_ready.result in
     let commit = c.args.commit in

@@ -6,8 +6,8 @@ use Rattle.kt_manager.proofs.Processes.{shows_inside}
 use Rattle.kt_manager.proofs.Messages.{fails}
 use Rattle.kt_manager.proofs.manager.Manager.fail.Goals as goal
 
-pub returns : goal.returns
-returns c = λ y h.
+pub returns-clause-done : goal.returns-clause-done
+returns-clause-done c = λ y h.
     let told = c.tell.ensures in
     let acted = c.act.ensures in
     fails _ c.fail.new.self c.act.new.self y (shows_inside _ _ y c.self.view_is h) (sym c.is_up.ensures ∙ c.if-not-is_up.false) (ap (λ (x : ProcessState). x.tables.processes) c.fail.ensures.fails) c.fail.ensures.shows

@@ -11,8 +11,8 @@ use Rattle.kt_manager.proofs.Lists.{shows_in}
 use Rattle.kt_manager.proofs.Settling.{waits, answers, asks_nobody, commits}
 use Rattle.kt_manager.proofs.manager.Manager.join.Goals as goal
 
-pub returns-in-Wait : goal.returns-in-Wait
-returns-in-Wait c = λ y label h s e cohort way willing.
+pub returns-in-Wait-clause-done : goal.returns-in-Wait-clause-done
+returns-in-Wait-clause-done c = λ y label h s e cohort way willing.
     let hi = subst (λ (w : ManagerState). HoldsFor w y) (sym c.self.view_is) h in
     let si = subst (λ (w : ManagerState). IsSeenAs w.process (process_of y)) (sym c.self.view_is) s in
     let told = c.tell_joining.ensures in
@@ -20,8 +20,8 @@ returns-in-Wait c = λ y label h s e cohort way willing.
     waits _ c.args.inst.now c.args.kind c.args.asks label c.args.out.now.rows y c.put_all.new.self cohort (c.put_all.ensures.rows ∙ told.rows) (ap acts_shown c.put_all.ensures.acts ∙ acts)
     c.put_all.ensures.parcels (shows_in _ (Some c.args.inst.now) y hi si (sym e)) (sym c.in-Wait.is ∙ way)
 
-pub returns-in-Answer : goal.returns-in-Answer
-returns-in-Answer c = λ y label h s e cohort way willing.
+pub returns-in-Answer-clause-done : goal.returns-in-Answer-clause-done
+returns-in-Answer-clause-done c = λ y label h s e cohort way willing.
     let hi = subst (λ (w : ManagerState). HoldsFor w y) (sym c.self.view_is) h in
     let si = subst (λ (w : ManagerState). IsSeenAs w.process (process_of y)) (sym c.self.view_is) s in
     let told = c.tell_joining.ensures in
@@ -30,8 +30,8 @@ returns-in-Answer c = λ y label h s e cohort way willing.
     c.in-Answer.to c.put.ensures.parcels (shows_in _ (Some c.args.inst.now) y hi si (sym e)) (sym c.in-Answer.is ∙ way) willing
     (c.requires.can.alone (λ n. let f : Wait ≡ Answer c.in-Answer.to = sym n ∙ c.in-Answer.is in absurd (cc (f))))
 
-pub returns-in-Commit : goal.returns-in-Commit
-returns-in-Commit c = λ y label h s e cohort way willing.
+pub returns-in-Commit-clause-done : goal.returns-in-Commit-clause-done
+returns-in-Commit-clause-done c = λ y label h s e cohort way willing.
     let k = c.args.inst.now in
     let kind = c.args.kind in
     let rows = c.args.out.now.rows in
@@ -43,5 +43,5 @@ returns-in-Commit c = λ y label h s e cohort way willing.
     let none = c.requires.can.alone (λ n. let f : Wait ≡ Commit = sym n ∙ c.in-Commit.is in absurd (cc (f))) in
     let shows = shows_in _ (Some k) y hi si (sym e) in
     commits c.decide.new.self c.decide.new.out k d (sym c.in-Commit.is ∙ way) willing
-    (c.decide.ensures d (asks_nobody _ k kind c.args.asks label rows y c.tell_joining.new.out cohort told.rows acts (told.parcels ∙ c.requires.parcels) shows none)
+    (c.decide.ensures.done d (asks_nobody _ k kind c.args.asks label rows y c.tell_joining.new.out cohort told.rows acts (told.parcels ∙ c.requires.parcels) shows none)
     (λ n. let f : Some k ≡ None = sym e ∙ n in absurd (cc (f))))

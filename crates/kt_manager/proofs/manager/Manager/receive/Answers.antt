@@ -6,8 +6,8 @@ use Rattle.kt_manager.proofs.Processes.{shows_inside}
 use Rattle.kt_manager.proofs.Messages.{Notes, dropping, shows_received, speaks_up, done_up, done_as}
 use Rattle.kt_manager.proofs.manager.Manager.receive.Goals as goal
 
-pub returns : goal.returns
-returns c = λ y h speaks.
+pub returns-clause-done : goal.returns-clause-done
+returns-clause-done c = λ y h speaks.
     let i = shows_inside _ _ y c.self.view_is h in
     let from = c.args.from in
     let label = c.args.label in
@@ -17,4 +17,4 @@ returns c = λ y h speaks.
     let calls = speaks_up y (receiving y from label body) (dropping y from label) up speaks in
     done_up _ _ y (receiving y from label body) (dropping y from label) up
     (done_as _ _ (λ (b : ℤ). receiving y from label b) _ _ (to_z-of_z w64 body c.ranges.body)
-    (c.tell_reception.ensures _ y (shows_received _ c.receive.new.self c.keep.new.self y from label _ c.receive.ensures.processes i c.keep.ensures.kept c.keep.ensures.held notes calls)))
+    (c.tell_reception.ensures.done _ y (shows_received _ c.receive.new.self c.keep.new.self y from label _ c.receive.ensures.processes i c.keep.ensures.kept c.keep.ensures.held notes calls)))

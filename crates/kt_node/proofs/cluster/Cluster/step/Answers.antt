@@ -1,14 +1,18 @@
-use Rattle.std.proofs.Common.{◌≡◌, ◌∙◌, ◌<◌, ℕ, List, [], ◌∷◌, ◌++◌, length, map, refl, sym, ap, ap₂, subst, arith, rules}
+use Rattle.std.proofs.Common.{◌≡◌, ◌∙◌, ◌<◌, true, ℕ, List, [], ◌∷◌, ◌++◌, length, map, refl, sym, ap, ap₂, subst, arith, rules}
 use Rattle.std.specs.Prelude.{◌==◌, if◌then◌else◌, Result, Ok, Err, OnErr, slice_index_or}
 use Rattle.kt_machine.specs.Acts.{stepper}
-use Rattle.kt_node.specs.Clocks.{envelope, clocked_acts, clocked_row}
+use Rattle.kt_node.specs.Clocks.{envelope, clocked_acts, clocked_input, clocked_row}
 use Rattle.kt_spacetime.specs.declared.named_rows.ClockedRow.{ClockedRow}
 use Rattle.kt_node.specs.declared.cluster.ClusterFault.{ClusterFault}
 use Rattle.kt_node.specs.declared.cluster.OnWay.{OnWay}
 use Rattle.kt_node.specs.declared.node.Output.{Output}
-use Rattle.kt_node.specs.Clusters.{ClusterState, link, step_of, net_after, coming_to, IsRefusedIn, IsRun, IsSpentIn, IsSpentAs, IsPutOut, HasNextNumbers}
+use Rattle.kt_node.specs.Clusters.{ClusterState, link, step_of, net_after, coming_to, wants_coming, IsRefusedIn, IsRun, IsSpentIn, IsSpentAs, IsPutOut, HasNextNumbers, HasTaken}
 use Rattle.kt_manager.specs.Effects.{put_to}
-use Rattle.kt_node.proofs.Clustering.{as_many, not_unknown, refusal, same_err, spending, stays, step_acts, step_numbers, step_runs, step_told}
+use Rattle.kt_node.specs.Links.{IsSameNode}
+use Rattle.kt_node.specs.declared.cluster.ClusterFault.TheVariants as fault
+use Rattle.kt_node.specs.declared.faults.ManagerFault.TheVariants as of_manager
+use Rattle.kt_node.specs.declared.node.NodeFault.TheVariants as of_node
+use Rattle.kt_node.proofs.Clustering.{as_many, not_unknown, other_nodes, refusal, same_err, same_nodes, spending, stays, wanting, step_acts, step_numbers, step_runs, step_takes, step_told}
 use Rattle.kt_node.proofs.cluster.Cluster.step.Goals as goal
 
 pub invariant_of-self-in_err-output : goal.invariant_of-self-in_err-output
@@ -251,6 +255,25 @@ returns-clause-numbers c = λ k.
     subst (λ (v : ClusterState). HasNextNumbers (slice_index_or v.nodes (stepper x) k) (slice_index_or nodes (stepper x) k) out) view
     (step_numbers s x nodes after c.carry_out.new.on_way.items c.carry_out.new.rows.items few b out others (λ n first. c.nets_are_runs.ensures.speaks_next n (λ p. first)) c.in_ok-output.ensures.done put told c.self.invariant.steps reached k)
 
+pub returns-clause-taken : goal.returns-clause-taken
+returns-clause-taken c = λ steps k h.
+    let inside = c.self.inside in
+    let before : ClusterState = record { nodes = inside.nodes.items; on_way = inside.on_way.items; rows = inside.rows.items; first = inside.first } in
+    let s : ClusterState = record { nodes = inside.nodes.items; on_way = c.make_room.new.on_way.items; rows = c.make_room.new.rows.items; first = inside.first } in
+    let same : s ≡ before = ap₂ (λ (w : List OnWay) (r : List ClockedRow). record { nodes = inside.nodes.items; on_way = w; rows = r; first = inside.first }) c.in_ok-make_room.ensures.same_on_way c.in_ok-make_room.ensures.same_rows in
+    let view : s ≡ c.args.self.now = same ∙ c.self.view_is in
+    let x = step_of c.args.next.now in
+    let b : stepper x < length s.nodes = search rules in
+    let few : stepper x < 64 = omega (arith, b, c.self.invariant.few) in
+    let nodes = c.turn_among.new.nodes.items in
+    let after = c.turn_among.new.on_way.items in
+    let out = c.in_ok-output.output in
+    let others = c.in_ok-output.ensures.others in
+    let put = λ (u v : ℕ) (l : v < 64). c.carry_out.ensures.links u v l ∙ ap (λ (q : ℕ). link after u v ++ (if u == q then map (envelope out.clock) (put_to out.effects.parcels v) else [])) c.at-at.ensures in
+    let told = c.carry_out.ensures.told ∙ ap (λ (q : ℕ). s.rows ++ map (clocked_row q out.clock) out.effects.rows) c.at-at.ensures in
+    subst (λ (v : ClusterState). HasTaken (clocked_input (net_after v steps) x) (slice_index_or v.nodes (stepper x) k) (slice_index_or nodes (stepper x) k)) view
+    (step_takes s x nodes after c.carry_out.new.on_way.items c.carry_out.new.rows.items few b out others (λ n first. c.nets_are_runs.ensures.speaks_next n (λ p. first)) c.in_ok-output.ensures.done put told steps (subst (λ (v : ClusterState). IsRun v steps) (sym view) h) k)
+
 pub returns-clause-spent : goal.returns-clause-spent
 returns-clause-spent c = λ steps h known.
     let inside = c.self.inside in
@@ -286,3 +309,53 @@ returns-in_err-output-clause-spent c = λ steps h known.
     let there = subst (λ (v : ClusterState). IsSpentAs {X = Output} (IsSpentIn (net_after v steps) x) (Err f)) view told in
     subst (λ (r : Result Output ClusterFault). IsSpentAs (IsSpentIn (net_after c.args.self.now steps) x) r)
     (sym (same_err c.from_residual-in_err-output.result f c.from_residual-in_err-output.ensures)) there
+
+pub returns-in_err-output-clause-memory : goal.returns-in_err-output-clause-memory
+returns-in_err-output-clause-memory c = λ steps h e.
+    let inside = c.self.inside in
+    let before : ClusterState = record { nodes = inside.nodes.items; on_way = inside.on_way.items; rows = inside.rows.items; first = inside.first } in
+    let s : ClusterState = record { nodes = inside.nodes.items; on_way = c.make_room.new.on_way.items; rows = c.make_room.new.rows.items; first = inside.first } in
+    let same : s ≡ before = ap₂ (λ (w : List OnWay) (r : List ClockedRow). record { nodes = inside.nodes.items; on_way = w; rows = r; first = inside.first }) c.in_ok-make_room.ensures.same_on_way c.in_ok-make_room.ensures.same_rows in
+    let view : s ≡ c.args.self.now = same ∙ c.self.view_is in
+    let x = step_of c.args.next.now in
+    let b : stepper x < length s.nodes = search rules in
+    let few : stepper x < 64 = omega (arith, b, c.self.invariant.few) in
+    let nodes = c.turn_among.new.nodes.items in
+    let after = c.turn_among.new.on_way.items in
+    let f = c.in_err-output.field-0.0 in
+    let g = fault.Node (of_node.Manager of_manager.Memory) in
+    let is = sym (same_err c.from_residual-in_err-output.result f c.from_residual-in_err-output.ensures) ∙ e in
+    subst (λ (v : ClusterState). wants_coming ((net_after v steps).nodes (stepper x)) (coming_to (net_after v steps) x) ≡ true) view
+    (wanting s x nodes after after s.rows few b {X = Output} (Err f) g c.in_err-output.ensures.memory steps (subst (λ (v : ClusterState). IsRun v steps) (sym view) h) is)
+
+pub returns-in_err-output-clause-same : goal.returns-in_err-output-clause-same
+returns-in_err-output-clause-same c = λ p k.
+    let inside = c.self.inside in
+    let before : ClusterState = record { nodes = inside.nodes.items; on_way = inside.on_way.items; rows = inside.rows.items; first = inside.first } in
+    let s : ClusterState = record { nodes = inside.nodes.items; on_way = c.make_room.new.on_way.items; rows = c.make_room.new.rows.items; first = inside.first } in
+    let same : s ≡ before = ap₂ (λ (w : List OnWay) (r : List ClockedRow). record { nodes = inside.nodes.items; on_way = w; rows = r; first = inside.first }) c.in_ok-make_room.ensures.same_on_way c.in_ok-make_room.ensures.same_rows in
+    let view : s ≡ c.args.self.now = same ∙ c.self.view_is in
+    let x = step_of c.args.next.now in
+    let b : stepper x < length s.nodes = search rules in
+    let few : stepper x < 64 = omega (arith, b, c.self.invariant.few) in
+    let nodes = c.turn_among.new.nodes.items in
+    let after = c.turn_among.new.on_way.items in
+    let f = c.in_err-output.field-0.0 in
+    subst (λ (r : Result Output ClusterFault). OnErr r (IsSameNode (slice_index_or nodes p k) (slice_index_or c.args.self.now.nodes p k)))
+    (sym (same_err c.from_residual-in_err-output.result f c.from_residual-in_err-output.ensures))
+    (subst (λ (v : ClusterState). IsSameNode (slice_index_or nodes p k) (slice_index_or v.nodes p k)) view
+    (same_nodes s x nodes after after s.rows few b c.in_err-output.ensures.others c.in_err-output.ensures.err p k))
+
+pub returns-in_err-output-clause-others : goal.returns-in_err-output-clause-others
+returns-in_err-output-clause-others c = λ p k other.
+    let inside = c.self.inside in
+    let before : ClusterState = record { nodes = inside.nodes.items; on_way = inside.on_way.items; rows = inside.rows.items; first = inside.first } in
+    let s : ClusterState = record { nodes = inside.nodes.items; on_way = c.make_room.new.on_way.items; rows = c.make_room.new.rows.items; first = inside.first } in
+    let same : s ≡ before = ap₂ (λ (w : List OnWay) (r : List ClockedRow). record { nodes = inside.nodes.items; on_way = w; rows = r; first = inside.first }) c.in_ok-make_room.ensures.same_on_way c.in_ok-make_room.ensures.same_rows in
+    let view : s ≡ c.args.self.now = same ∙ c.self.view_is in
+    let x = step_of c.args.next.now in
+    let b : stepper x < length s.nodes = search rules in
+    let few : stepper x < 64 = omega (arith, b, c.self.invariant.few) in
+    let nodes = c.turn_among.new.nodes.items in
+    let after = c.turn_among.new.on_way.items in
+    other_nodes s x nodes after after s.rows few b c.in_err-output.ensures.others p k other ∙ ap (λ (v : ClusterState). slice_index_or v.nodes p k) view

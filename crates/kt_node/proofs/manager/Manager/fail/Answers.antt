@@ -5,7 +5,7 @@ use Rattle.kt_node.proofs.manager.Manager.fail.Goals as goal
 pub returns : goal.returns
 returns c = λ y h.
     let g = guards_inside _ _ y c.self.view_is h in
-    done_guarded _ c.fail.new.out _ refl (c.fail.ensures y (core_inside _ _ y refl c.self.view_is h))
+    done_guarded _ c.fail.new.out _ refl (c.fail.ensures.done y (core_inside _ _ y refl c.self.view_is h))
     (guarded_on _ y _ (record { begun = g.begun; asks = g.asks; answered = g.answered }) (fail_guarded y))
 
 pub invariant_of-self : goal.invariant_of-self

@@ -1,4 +1,4 @@
-use Rattle.std.proofs.Common.{◌≡◌, ◌∙◌, ap}
+use Rattle.std.proofs.Common.{◌∙◌, ap}
 use Rattle.std.proofs.Common.{length}
 use Rattle.kt_process.proofs.Targets.{count_targets}
 use Rattle.kt_process.proofs.asks.Asks.targets.Goals as goal

@@ -1,8 +1,7 @@
 use Rattle.std.proofs.Common.{◌≡◌, sym, ◌∙◌, ap, arith, true, false}
 use Rattle.std.specs.Prelude.{insert}
-use Rattle.kt_process.specs.Notes.{Noted}
-use Rattle.kt_tables.specs.Walks.{place_of, stands_at}
-use Rattle.kt_tables.proofs.Pairs.{Pairs, set_at, insert_at, place_within}
+use Rattle.kt_process.specs.Notes.{Noted, place_of, stands_at}
+use Rattle.kt_process.proofs.NotePairs.{Pairs, set_at, insert_at, place_within}
 use Rattle.kt_process.proofs.NoteLists.{insert_room, put_notes, more_notes}
 use Rattle.kt_process.proofs.notes.Notes.note.Goals as goal
 

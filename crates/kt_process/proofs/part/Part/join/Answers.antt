@@ -1,5 +1,4 @@
-use Rattle.std.proofs.Common.{◌≡◌, ℕ, sym, ◌∙◌, refl, true, ap, length, arith}
-use Rattle.kt_base.specs.Sets.{has}
+use Rattle.std.proofs.Common.{◌≡◌, sym, ◌∙◌, refl, ap, length, arith}
 use Rattle.kt_process.proofs.Targets.{asked_below, few_asked}
 use Rattle.kt_process.proofs.part.Part.join.Goals as goal
 

@@ -1,9 +1,8 @@
-use Rattle.std.proofs.Common.{◌≡◌, ℕ, List, sym, subst}
+use Rattle.std.proofs.Common.{◌≡◌, List, sym, subst}
 use Rattle.std.specs.Prelude.{Option, Some, None, IfSome, OnSome, true}
 use Rattle.kt_base.specs.declared.words.Kind.TheVariants as kind
 use Rattle.kt_tables.specs.Calls.{Call}
 use Rattle.kt_tables.specs.Standing.{TablesStandFor}
-use Rattle.kt_tables.specs.States.{State}
 use Rattle.kt_process.specs.Joins.{Joins}
 use Rattle.kt_process.specs.RollbackActions.{IsRollbackStart, AsksRollbackCohort}
 use Rattle.kt_process.specs.Notes.{note_of}
@@ -12,7 +11,6 @@ use Rattle.kt_process.specs.ProcessStates.{ProcessState, part_of_side, inst_of, 
 use Rattle.kt_process.specs.declared.side.Side.TheVariants as side
 use Rattle.kt_process.specs.Shown.{IsSeenAs, BeginsAs, no_mark}
 use Rattle.kt_machine.specs.Seen.{SeenProcess}
-use Rattle.kt_machine.specs.SeenJoining.{no_note}
 use Rattle.kt_process.proofs.Beginning.{begins_roll, refuses_roll}
 use Rattle.kt_process.proofs.process.Process.begin_rollback.Goals as goal
 use Rattle.kt_process.proofs.process.Process.begin_rollback.Goals.{in-Some+in-Some+in-Checkpoint-1, in-Some+in-Some+in-Rollback-1, in-Some+in-None-1, in_default}

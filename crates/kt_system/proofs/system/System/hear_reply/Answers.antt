@@ -1,26 +1,39 @@
-use Rattle.std.specs.Prelude.{option_map}
-use Rattle.std.proofs.Common.{◌≡◌, refl, ap, subst, sym, ◌∙◌}
-use Rattle.kt_process.specs.PartRules.{after_reply}
-use Rattle.kt_process.specs.ProcessStates.{ProcessState, part_of_side, is_ready}
-use Rattle.kt_process.specs.Turns.{reply_of}
-use Rattle.kt_process.specs.Shown.{IsSeenAs, counted_as}
-use Rattle.kt_system.proofs.Turns.{state_at}
-use Rattle.kt_system.proofs.Showing.{is_turned, stood, placed, in_system}
+use Rattle.std.proofs.Common.{◌≡◌, ◌∙◌, refl, sym, subst}
+use Rattle.std.proofs.lemmas.List.{length-set}
+use Rattle.kt_spacetime.specs.declared.names.InstName.{InstName}
+use Rattle.kt_manager.specs.Effects.{IsDone}
+use Rattle.kt_manager.specs.Managers.{ManagerState, ShowsManager}
+use Rattle.kt_manager.specs.Nodes.{nothing}
+use Rattle.kt_manager.specs.NodeClosing.{settling}
+use Rattle.kt_manager.specs.NodeSteps.{counting}
+use Rattle.kt_system.specs.Carried.{numbered_name}
+use Rattle.kt_system.proofs.Hearing.{reply_heard, reply_unheard}
+use Rattle.kt_system.proofs.Turning.{sound_stepped, is_stepped, done_stepped, shown_before, awaits_before}
 use Rattle.kt_system.proofs.system.System.hear_reply.Goals as goal
 
-pub returns-clause-action : goal.returns-clause-action
-returns-clause-action c =
-    let was = state_at _ _ c.args.p c.index.result c.index_mut.result.now c.self.view_is c.self.invariant c.requires c.index.ensures.value c.index_mut.ensures.value in
-    c.hear_reply.ensures.action ∙ ap (λ (x : ProcessState). reply_of (part_of_side x.side) c.args.willing) was
+pub invariant_of-self : goal.invariant_of-self
+invariant_of-self c =
+    sound_stepped _ _ _ _ c.args.at _ _ _ c.self.view_is c.self.invariant c.requires.at c.index.ensures.value c.index_mut-manager.ensures.value refl (length-set _ _ _) c.take_reply.ensures.size _ refl refl refl
+    c.note.ensures.some c.note.ensures.none c.note.ensures.others
 
-pub returns-clause-part : goal.returns-clause-part
-returns-clause-part c = in_system (λ x y. part_of_side y.side ≡ option_map (λ part. after_reply part c.args.willing) (part_of_side x.side)) _ _ _ c.args.p c.index.result c.index_mut.result.now c.hear_reply.new.self c.self.view_is c.self.invariant c.requires c.index.ensures.value c.index_mut.ensures.value refl c.hear_reply.ensures.part
+pub returns-clause-stepped : goal.returns-clause-stepped
+returns-clause-stepped c =
+    is_stepped _ _ _ _ c.args.at _ _ _ c.self.view_is c.self.invariant c.requires.at c.index.ensures.value c.index_mut-manager.ensures.value refl (length-set _ _ _) c.take_reply.ensures.size refl refl refl refl refl
+    c.note.ensures.numbered c.take_reply.ensures.within
 
-pub returns-clause-ready : goal.returns-clause-ready
-returns-clause-ready c = in_system (λ x y. is_ready y.side ≡ is_ready x.side) _ _ _ c.args.p c.index.result c.index_mut.result.now c.hear_reply.new.self c.self.view_is c.self.invariant c.requires c.index.ensures.value c.index_mut.ensures.value refl c.hear_reply.ensures.ready
+pub take_reply-requires : goal.take_reply-requires
+take_reply-requires c = awaits_before _ _ _ c.args.at _ _ c.self.view_is c.self.invariant c.requires.at c.index.ensures.value c.index_mut-manager.ensures.value c.manager.ensures.manager c.awaited.ensures.awaited c.if-awaited-eq0.false
 
-pub returns-clause-turned : goal.returns-clause-turned
-returns-clause-turned c = is_turned _ _ _ c.args.p c.index.result c.hear_reply.new.self c.self.view_is c.index.ensures.value refl refl refl refl refl refl refl refl
+pub returns-then-awaited-eq0-clause-done : goal.returns-then-awaited-eq0-clause-done
+returns-then-awaited-eq0-clause-done c = λ y q h.
+    let none : y.part.awaited ≡ 0 = sym (c.awaited.ensures.node y (subst (λ (m : ManagerState). ShowsManager m y) (sym c.manager.ensures.manager) h)) ∙ c.if-awaited-eq0.true in
+    reply_unheard _ c.args.at y q (numbered_name c.args.inst) c.args.willing none (c.do_nothing.ensures.done y h)
 
-pub returns-clause-shows : goal.returns-clause-shows
-returns-clause-shows c = λ v h. subst (λ (x : ProcessState). IsSeenAs x (counted_as c.args.willing (v.states c.args.p))) (sym (placed _ _ _ c.args.p c.index.result c.hear_reply.new.self c.self.view_is c.self.invariant c.requires c.index.ensures.value refl)) (c.hear_reply.ensures.shows (v.states c.args.p) (stood _ _ c.args.p c.index.result c.index_mut.result.now v c.self.view_is c.self.invariant c.requires c.index.ensures.value c.index_mut.ensures.value h))
+pub returns-clause-done : goal.returns-clause-done
+returns-clause-done c = λ y q h.
+    let some = c.if-awaited-eq0.false in
+    let is = c.awaited.ensures.node y (subst (λ (m : ManagerState). ShowsManager m y) (sym c.manager.ensures.manager) h) in
+    reply_heard _ c.args.at y q (numbered_name c.args.inst) c.args.willing (λ e. some (is ∙ e))
+    (done_stepped _ _ _ _ c.args.at _ _ _ c.self.view_is c.self.invariant c.requires.at c.index.ensures.value c.index_mut-manager.ensures.value refl (length-set _ _ _) c.take_reply.ensures.size (settling (numbered_name c.args.inst) (nothing (counting y q c.args.willing)))
+    (subst (λ (k : InstName). IsDone c.take_reply.new.self c.take_reply.new.out (settling k (nothing (counting y q c.args.willing)))) c.name_of.ensures
+    (c.take_reply.ensures.done y q (shown_before _ _ _ c.args.at _ _ y c.self.view_is c.self.invariant c.requires.at c.index.ensures.value c.index_mut-manager.ensures.value h))))

@@ -1,8 +1,15 @@
-use Rattle.std.specs.Prelude.{IsTrue, ◌↔◌}
-use Rattle.std.proofs.Common.{◌≡◌, ℕ, [], subst}
-use Rattle.kt_fifo.specs.Channels.{channel}
-use Rattle.kt_system.specs.Systems.{Whole}
+use Rattle.std.proofs.Common.{subst}
+use Rattle.kt_manager.specs.Managers.{ManagerState, IsSoundManager}
+use Rattle.kt_system.proofs.Managed.{holder_within}
+use Rattle.kt_system.proofs.Quiet.{holds_within}
 use Rattle.kt_system.proofs.system.System.holds_none.Goals as goal
 
-pub returns : goal.returns
-returns c = subst (λ (w : Whole). IsTrue c.is_empty.result ↔ ((p q : ℕ) → channel w.held p q ≡ [])) c.self.view_is c.is_empty.ensures
+pub manager-requires : goal.manager-requires
+manager-requires c = holder_within _ _ c.self.inside.holders c.in-Some.p c.self.view_is c.self.invariant c.in-Some.ensures.member
+
+pub returns-clause-within : goal.returns-clause-within
+returns-clause-within c = λ none. absurd (
+    let p = c.in-Some.p in
+    let member = c.in-Some.ensures.member in
+    holds_within _ _ c.self.inside.holders p c.self.view_is c.self.invariant member (holder_within _ _ c.self.inside.holders p c.self.view_is c.self.invariant member)
+    (subst (λ (m : ManagerState). IsSoundManager m) c.manager.ensures.manager c.inbox-sound.ensures.sound) none)

@@ -1,24 +1,24 @@
 use Rattle.std.proofs.Common.{sym, ◌∙◌}
-use Rattle.kt_system.proofs.Quiet.{quiet_from, quiet_channels, quiet_held, quiet_outside}
+use Rattle.kt_system.proofs.Managed.{all_outside_is}
+use Rattle.kt_system.proofs.Quiet.{quiet_from, quiet_channels, quiet_outside}
 use Rattle.kt_system.proofs.system.System.is_quiet.Goals as goal
-use Rattle.kt_system.proofs.system.System.is_quiet.Goals.{then-is_empty, else-is_empty}
 
-pub returns-then-is_empty-2 : goal.returns-then-is_empty-2
-returns-then-is_empty-2 c = elim c.if-is_empty.branch [
-  | then-is_empty w ↦
-      let channels = c.is_empty.ensures.0 w.if-is_empty.true in
-      let held = w.is_empty-then-is_empty.ensures.0 (sym w.value-is ∙ c.if-is_empty-2.true) in (
-        λ e. quiet_from _ _ c.self.view_is c.self.invariant channels held (sym c.all_outside.ensures ∙ e),
-        λ h. c.all_outside.ensures ∙ quiet_outside _ _ c.self.view_is c.self.invariant h,
-      )
-  | else-is_empty w ↦ absurd (cc (w.value-is, c.if-is_empty-2.true))
-]
-
-pub returns-else-is_empty-2 : goal.returns-else-is_empty-2
-returns-else-is_empty-2 c = (
-  λ e. absurd (cc (e, c.if-is_empty-2.false)),
-  λ h. elim c.if-is_empty.branch [
-    | then-is_empty w ↦ w.value-is ∙ w.is_empty-then-is_empty.ensures.1 (quiet_held _ _ c.self.view_is c.self.invariant h)
-    | else-is_empty w ↦ absurd (let e = c.is_empty.ensures.1 (quiet_channels _ _ c.self.view_is c.self.invariant h) in cc (e, w.if-is_empty.false))
-  ],
+pub returns-then-not-sends_none : goal.returns-then-not-sends_none
+returns-then-not-sends_none c = (
+  λ e. absurd (cc (e)),
+  λ k. absurd (let s = c.sends_none.ensures.1 (quiet_channels c.args.self.now c.processes-processes.ensures.channels k) in let f = c.if-not-sends_none.true in cc (s, f)),
 )
+
+pub returns-then-not-holds_none : goal.returns-then-not-holds_none
+returns-then-not-holds_none c = (
+  λ e. absurd (cc (e)),
+  λ k. absurd (let s = c.holds_none.ensures.within (λ p q l m. k.held p q l m) in let f = c.if-not-holds_none.true in cc (s, f)),
+)
+
+pub returns : goal.returns
+returns c =
+    let w = c.args.self.now in
+    let all = all_outside_is w c.processes-processes.ensures.managers in (
+      λ e. quiet_from w (c.sends_none.ensures.0 c.if-not-sends_none.false) (c.holds_none.ensures.all.0 c.if-not-holds_none.false) (all.0 (sym c.all_outside.ensures ∙ e)),
+      λ k. c.all_outside.ensures ∙ all.1 (quiet_outside w k),
+    )

@@ -1,56 +1,35 @@
-use Rattle.std.proofs.Common.{◌≡◌, refl, [], ℕ, List, arith, ap, sym, subst}
-use Rattle.std.specs.Prelude.{true, Option, None}
-use Rattle.std.proofs.lemmas.List.Elements.{All-weaker}
+use Rattle.std.proofs.Common.{◌≡◌, ℕ, List, refl, arith, ap, sym, ◌∙◌}
 use Rattle.kt_fifo.specs.declared.parcels.Parcel.{Parcel}
-use Rattle.kt_process.specs.ProcessStates.{ProcessState, part_of_side, IsNumbered}
-use Rattle.kt_process.specs.declared.side.Side.{Side}
-use Rattle.kt_process.specs.Turns.{IsFresh}
-use Rattle.kt_process.specs.Shown.{IsSeenAs, inst_shown, part_shown}
-use Rattle.kt_machine.specs.Seen.{no_part}
-use Rattle.kt_system.proofs.Turns.{each_state}
+use Rattle.kt_system.proofs.Opening.{opening_from, opening_held, opening_kept, opening_holds, opening_sizes, opening_states, opening_shows}
 use Rattle.kt_system.proofs.system.System.new.Goals as goal
-
-in_none : (s : Option Side) → s ≡ None → IsNumbered (part_of_side s)
-in_none s e = subst (λ (x : Option Side). IsNumbered (part_of_side x)) (sym e) tt
 
 pub invariant_of-result : goal.invariant_of-result
 invariant_of-result c =
-    let fresh : ProcessState → Type 0 = IsFresh c.args.processes c.args.used in
-    let states = c.in_ok-fresh_processes.ensures.fresh in
+    let f = c.in_ok-fresh_managers.ensures in
     record {
-      few = c.requires;
-      states = c.in_ok-fresh_processes.ensures.length;
-      channels = c.in_ok-new.ensures.processes;
-      held = c.in_ok-new-2.ensures.processes;
-      kept = c.in_ok-new-3.ensures.processes;
+      few = (let n = f.length in let r = c.requires in omega (arith, n, r));
+      managers = refl;
+      sizes = opening_sizes _ c.args.processes c.args.used f.length refl (opening_from _ _ _ f.fresh);
+      channels = c.in_ok-new.ensures.processes ∙ sym f.length;
+      sent = c.in_ok-new-2.ensures.lists ∙ sym f.length;
       begun = omega arith;
-      tables = All-weaker fresh (λ (x : ProcessState). x.tables.processes ≡ c.args.processes) (λ x f. f.processes) _ states;
-      numbered = All-weaker fresh (λ (x : ProcessState). IsNumbered (part_of_side x.side)) (λ x f. in_none x.side f.side) _ states;
+      some = λ p e. absurd (let k = c.empty.ensures p in cc (e, k));
+      none = λ p q e. opening_holds _ c.args.processes c.args.used f.length refl (opening_from _ _ _ f.fresh) p q;
     }
 
 pub returns-clause-states : goal.returns-clause-states
-returns-clause-states c = λ p b. each_state (IsFresh c.args.processes c.args.used) _ c.in_ok-fresh_processes.ensures.fresh p
-    (let size = c.in_ok-fresh_processes.ensures.length in omega arith)
+returns-clause-states c = let f = c.in_ok-fresh_managers.ensures in opening_states _ c.args.processes c.args.used f.length refl (opening_from _ _ _ f.fresh)
 
 pub returns-clause-channels : goal.returns-clause-channels
 returns-clause-channels c = λ p q. ap (λ (f : ℕ → ℕ → List Parcel). f p q) c.in_ok-new.ensures.lists
 
 pub returns-clause-held : goal.returns-clause-held
-returns-clause-held c = λ p q. ap (λ (f : ℕ → ℕ → List Parcel). f p q) c.in_ok-new-2.ensures.lists
+returns-clause-held c = let f = c.in_ok-fresh_managers.ensures in opening_held _ c.args.processes c.args.used f.length refl (opening_from _ _ _ f.fresh)
 
 pub returns-clause-kept : goal.returns-clause-kept
-returns-clause-kept c = λ p q. ap (λ (f : ℕ → ℕ → List Parcel). f p q) c.in_ok-new-3.ensures.lists
-
-fresh_seen : (n first : ℕ) (x : ProcessState) → IsFresh n first x → IsSeenAs x (record { calls = []; used = first; inst = 0; part = no_part; up = true })
-fresh_seen n first x f = record { stands = f.stands; inst = ap inst_shown f.side; part = ap part_shown f.side; up = f.up; used = f.used }
+returns-clause-kept c = let f = c.in_ok-fresh_managers.ensures in opening_kept _ c.args.processes c.args.used f.length refl (opening_from _ _ _ f.fresh)
 
 pub returns-clause-shows : goal.returns-clause-shows
-returns-clause-shows c = record {
-  processes = refl;
-  states = λ p b. fresh_seen c.args.processes c.args.used _ (returns-clause-states c p b);
-  channels = c.in_ok-new.ensures.lists;
-  held = c.in_ok-new-2.ensures.lists;
-  kept = c.in_ok-new-3.ensures.lists;
-  log = c.new-4.ensures.rows;
-  begun = refl;
-}
+returns-clause-shows c =
+    let f = c.in_ok-fresh_managers.ensures in
+    opening_shows _ c.args.processes c.args.used f.length refl (opening_from _ _ _ f.fresh) c.in_ok-new.ensures.lists c.new-2.ensures.rows refl c.in_ok-new-2.ensures.first c.in_ok-new-2.ensures.none

@@ -1,56 +1,70 @@
-use Rattle.std.proofs.Common.{◌≡◌, sym, ◌∙◌, ap, subst, length, map, take, get_or, ℕ, ◌<◌, ◌≤◌, ◌++◌, ◌∷◌, []}
-use Rattle.std.proofs.lemmas.List.{take_all}
-use Rattle.kt_tables.specs.Peers.{LabelTable, label_of, find_label, IsTable}
-use Rattle.kt_tables.specs.Walks.{head_label}
+use Rattle.std.proofs.Common.{◌≡◌, ℕ, ◌++◌, ◌∷◌, [], length, map, sym, ap, subst, ◌∙◌, arith, append_assoc}
+use Rattle.std.proofs.lemmas.List.{append-nil}
+use Rattle.kt_tables.specs.Peers.{label_of, IsTable}
 use Rattle.kt_tables.proofs.Pairs.{Pairs}
-use Rattle.kt_tables.proofs.Cohorts.{beside, cohort_below, cohort_is, cohort_more, walking_head, walking_more}
+use Rattle.kt_tables.proofs.Cohorts.{beside, cohort_below, cohort_is}
 use Rattle.kt_tables.proofs.peers.PeerLabels.cohort.Goals as goal
+use Rattle.kt_tables.proofs.peers.PeerLabels.cohort.Goals.{In-None}
 
-pub loop-pair-preserved : goal.loop-pair-preserved
-loop-pair-preserved c =
-    let ps = c.args.self.now.pairs in
-    let labels = c.args.labels.now.pairs in
-    let i = c.loop-pair.pair-index in
-    let x = c.pair-item.result in
-    let same : c.deref-pair-items.result.now ≡ ps = c.deref-pair-items.ensures.value ∙ ap (λ (t : LabelTable). t.pairs) c.self.view_is in
-    let within : i < length ps = subst (λ (l : Pairs). i < length l) same c.loop-pair-test.true in
-    let item : x ≡ get_or ps i x = subst (λ (l : Pairs). x ≡ get_or l i x) same c.pair-item.is in
-    let table : IsTable 0 c.args.self.now.peers ps = subst (λ (t : LabelTable). IsTable 0 t.peers t.pairs) c.self.view_is c.self.invariant.0 in
-    let label : c.head.result ≡ find_label labels x.0 =
-    c.head.ensures ∙ (ap (λ (l : Pairs). head_label l x.0) c.from_peer-rest.ensures ∙ walking_head ps labels _ i _ x c.loop-pair.invariant.walking within item) in
+pub loop-peer-init : goal.loop-peer-init
+loop-peer-init c =
+    let given = c.into_iter-peer-iterator.ensures.into_iter_gives in
+    let pairs = c.pairs-pairs.ensures in
+    let own = c.in_ok-cohort.ensures in
+    let b = beside (label_of c.args.labels.now) in
     record {
-      walking = rw c.from_peer-rest.ensures (walking_more _ ps labels _ i _ x table c.loop-pair.invariant.walking within item);
-      items =
-          c.push_reserved.ensures.items
-          ∙ (ap (λ (l : Pairs). l ++ (x.0, c.head.result) ∷ []) c.loop-pair.invariant.items
-          ∙ (ap (λ (l : ℕ). map (beside (find_label labels)) (take i ps) ++ (x.0, l) ∷ []) label ∙ sym (cohort_more ps (find_label labels) i x within item)));
-      room = c.push_reserved.ensures.capacity ∙ c.loop-pair.invariant.room;
+      can = tt;
+      finite = tt;
+      items = ap (λ (l : Pairs). l ++ map b c.into_iter-peer-iterator.result) own.items ∙ ap (λ (l : Pairs). map b l) (given ∙ pairs.pairs);
+      room =
+          let same = ap (λ (l : Pairs). length l) given in
+          omega (arith, same, own.len, own.capacity, c.left.ensures);
     }
+
+pub push_reserved-requires : goal.push_reserved-requires
+push_reserved-requires c =
+    let one = ap (λ (l : Pairs). length l) c.in-Some.ensures.steps in
+    let room = c.loop-peer.invariant.room in
+    omega (arith, one, room)
+
+pub loop-peer-preserved : goal.loop-peer-preserved
+loop-peer-preserved c =
+    let steps = c.in-Some.ensures.steps in
+    let inv = c.loop-peer.invariant in
+    let more = c.push_reserved.ensures in
+    let b = beside (label_of c.args.labels.now) in
+    let done : Pairs = c.loop-peer.cohort.items in
+    let rest : Pairs = c.next.new.self in
+    let p : ℕ = c.in-Some.peer in
+    record {
+      can = tt;
+      finite = tt;
+      items =
+          ap (λ (l : Pairs). l ++ map b rest) more.items
+          ∙ (append_assoc done ((p, c.label.result) ∷ []) (map b rest)
+          ∙ (ap (λ (k : ℕ). done ++ (p, k) ∷ map b rest) c.label.ensures
+          ∙ (ap (λ (l : Pairs). done ++ map b l) (sym steps) ∙ inv.items)));
+      room =
+          let one = ap (λ (l : Pairs). length l) steps in
+          let room = inv.room in
+          omega (arith, one, room, more.len, more.capacity);
+    }
+
+all_items : (c : In-None) → c.loop-peer.cohort.items ≡ map (beside (label_of c.args.labels.now)) c.args.self.now.pairs
+all_items c =
+    let b = beside (label_of c.args.labels.now) in
+    let done : Pairs = c.loop-peer.cohort.items in
+    sym (append-nil done) ∙ (ap (λ (l : Pairs). done ++ map b l) (sym c.in-None.ensures.steps.0) ∙ c.loop-peer.invariant.items)
+
+own_table : (c : In-None) → IsTable 0 c.args.self.now.peers c.args.self.now.pairs
+own_table c = subst (λ (ps : Pairs). IsTable 0 c.args.self.now.peers ps) c.pairs-pairs.ensures.pairs c.pairs-pairs.ensures.table
 
 pub returns-clause-cohort : goal.returns-clause-cohort
 unfolding label_of
-returns-clause-cohort c =
-    let ps = c.args.self.now.pairs in
-    let i = c.loop-pair.pair-index in
-    let same : c.deref-pair-items.result.now ≡ ps = c.deref-pair-items.ensures.value ∙ ap (λ (t : LabelTable). t.pairs) c.self.view_is in
-    let past : length ps ≤ i = subst (λ (l : Pairs). length l ≤ i) same c.loop-pair-test.false in
-    let table : IsTable 0 c.args.self.now.peers ps = subst (λ (t : LabelTable). IsTable 0 t.peers t.pairs) c.self.view_is c.self.invariant.0 in
-    rw (c.loop-pair.invariant.items, take_all i ps past) (cohort_is _ ps (find_label c.args.labels.now.pairs) table)
+returns-clause-cohort c = rw (all_items c) (cohort_is _ c.args.self.now.pairs (label_of c.args.labels.now) (own_table c))
 
 pub returns-clause-rising : goal.returns-clause-rising
-returns-clause-rising c =
-    let ps = c.args.self.now.pairs in
-    let i = c.loop-pair.pair-index in
-    let same : c.deref-pair-items.result.now ≡ ps = c.deref-pair-items.ensures.value ∙ ap (λ (t : LabelTable). t.pairs) c.self.view_is in
-    let past : length ps ≤ i = subst (λ (l : Pairs). length l ≤ i) same c.loop-pair-test.false in
-    let table : IsTable 0 c.args.self.now.peers ps = subst (λ (t : LabelTable). IsTable 0 t.peers t.pairs) c.self.view_is c.self.invariant.0 in
-    rw (c.loop-pair.invariant.items, take_all i ps past) ((cohort_is _ ps (find_label c.args.labels.now.pairs) table).rising)
+returns-clause-rising c = rw (all_items c) ((cohort_is _ c.args.self.now.pairs (label_of c.args.labels.now) (own_table c)).rising)
 
 pub returns-clause-within : goal.returns-clause-within
-returns-clause-within c =
-    let ps = c.args.self.now.pairs in
-    let i = c.loop-pair.pair-index in
-    let same : c.deref-pair-items.result.now ≡ ps = c.deref-pair-items.ensures.value ∙ ap (λ (t : LabelTable). t.pairs) c.self.view_is in
-    let past : length ps ≤ i = subst (λ (l : Pairs). length l ≤ i) same c.loop-pair-test.false in
-    let table : IsTable 0 c.args.self.now.peers ps = subst (λ (t : LabelTable). IsTable 0 t.peers t.pairs) c.self.view_is c.self.invariant.0 in
-    rw (c.loop-pair.invariant.items, take_all i ps past) (cohort_below _ ps (find_label c.args.labels.now.pairs) table)
+returns-clause-within c = rw (all_items c) (cohort_below _ c.args.self.now.pairs (label_of c.args.labels.now) (own_table c))

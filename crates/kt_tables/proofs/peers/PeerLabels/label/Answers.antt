@@ -1,13 +1,16 @@
-use Rattle.std.proofs.Common.{sym, ◌∙◌, ap, subst}
-use Rattle.kt_tables.specs.Peers.{LabelTable, label_of, find_label, IsTable}
-use Rattle.kt_tables.proofs.Pairs.{Pairs}
+use Rattle.std.proofs.Common.{sym, ◌∙◌, ap}
+use Rattle.kt_tables.specs.Peers.{LabelTable, label_of, find_label}
+use Rattle.kt_tables.proofs.Indexed.{label_found, label_none}
 use Rattle.kt_tables.proofs.peers.PeerLabels.label.Goals as goal
 
-pub returns : goal.returns
+pub returns-then-has : goal.returns-then-has
 unfolding label_of
-returns c =
-    let items = c.deref.ensures.value in
-    let table : IsTable 0 c.self.inside.peers c.deref.result.now = subst (λ (ps : Pairs). IsTable 0 c.self.inside.peers ps) (sym items) c.self.invariant.0 in
-    c.label_from_back.ensures c.self.inside.peers (c.as_far_as.ensures.table c.self.inside.peers table)
-    ∙ (c.as_far_as.ensures.label c.self.inside.peers table
-    ∙ ap (λ (ps : Pairs). find_label ps c.args.peer) (items ∙ ap (λ (t : LabelTable). t.pairs) c.self.view_is))
+returns-then-has c =
+    label_found c.self.inside.labelled c.self.inside.labels.items c.args.peer c.index.result c.index-then-has.result.now c.self.invariant (sym c.has.ensures ∙ c.if-has.true) c.index.ensures.value c.index-then-has.ensures
+    ∙ ap (λ (t : LabelTable). find_label t.pairs c.args.peer) c.self.view_is
+
+pub returns-else-has : goal.returns-else-has
+unfolding label_of
+returns-else-has c =
+    label_none c.self.inside.labelled c.self.inside.labels.items c.args.peer c.none.result (sym c.has.ensures ∙ c.if-has.false) c.none.ensures
+    ∙ ap (λ (t : LabelTable). find_label t.pairs c.args.peer) c.self.view_is

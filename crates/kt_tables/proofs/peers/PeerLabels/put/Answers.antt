@@ -1,57 +1,14 @@
-use Rattle.std.proofs.Common.{◌≡◌, sym, ◌∙◌, ap, arith, true, false}
-use Rattle.std.specs.Prelude.{insert}
-use Rattle.kt_tables.specs.Peers.{LabelTable}
-use Rattle.kt_tables.specs.Walks.{place_of, stands_at}
-use Rattle.kt_tables.proofs.Pairs.{Pairs, set_at, insert_at, insert_room, put_table, put_labels, place_within}
+use Rattle.std.proofs.Common.{◌<◌, ◌∙◌, ap, arith, length}
+use Rattle.std.proofs.Math.Path.{fun_ext}
+use Rattle.kt_tables.specs.Peers.{LabelTable, label_of, find_label, at_peer}
+use Rattle.kt_tables.proofs.Indexed.{label_put}
 use Rattle.kt_tables.proofs.peers.PeerLabels.put.Goals as goal
 
-pub invariant_of-self : goal.invariant_of-self
-invariant_of-self c =
-    let at : c.place-place.result ≡ place_of c.self.inside.pairs.items c.args.peer = c.place-place.ensures.place ∙ ap (λ (l : Pairs). place_of l c.args.peer) c.deref.ensures.value in
-    let is : stands_at c.self.inside.pairs.items c.place-place.result c.args.peer ≡ true =
-    ap (λ (l : Pairs). stands_at l c.place-place.result c.args.peer) (sym c.deref-2.ensures.value) ∙ (sym c.stands.ensures ∙ c.if-stands.true) in
-    let n = ap (λ (t : LabelTable). t.peers) c.self.view_is in (
-      rw (set_at c.self.inside.pairs.items c.args.peer c.args.label c.place-place.result at is)
-          (put_table 0 _ _ c.args.peer c.args.label c.self.invariant.0 (omega arith) (omega arith) c.requires.label),
-      c.self.invariant.1,
-    )
-
-pub insert-requires : goal.insert-requires
-insert-requires c =
-    let at : c.place-place.result ≡ place_of c.self.inside.pairs.items c.args.peer = c.place-place.ensures.place ∙ ap (λ (l : Pairs). place_of l c.args.peer) c.deref.ensures.value in
-    omega (arith, at, place_within c.self.inside.pairs.items c.args.peer, c.self.inside.pairs.ok.0)
-
-pub unwrap-requires : goal.unwrap-requires
-unwrap-requires c =
-    let at : c.place-place.result ≡ place_of c.self.inside.pairs.items c.args.peer = c.place-place.ensures.place ∙ ap (λ (l : Pairs). place_of l c.args.peer) c.deref.ensures.value in
-    let is : stands_at c.self.inside.pairs.items c.place-place.result c.args.peer ≡ false =
-    ap (λ (l : Pairs). stands_at l c.place-place.result c.args.peer) (sym c.deref-2.ensures.value) ∙ (sym c.stands.ensures ∙ c.if-stands.false) in
-    let n = ap (λ (t : LabelTable). t.peers) c.self.view_is in
-    c.insert.ensures.succeeds (omega (arith, insert_room _ _ _ _ _ c.self.invariant.0 (omega arith) c.requires.label at is, c.self.invariant.1, c.self.inside.pairs.ok.0))
-
-pub invariant_of-self-else-stands : goal.invariant_of-self-else-stands
-invariant_of-self-else-stands c =
-    let at : c.place-place.result ≡ place_of c.self.inside.pairs.items c.args.peer = c.place-place.ensures.place ∙ ap (λ (l : Pairs). place_of l c.args.peer) c.deref.ensures.value in
-    let is : stands_at c.self.inside.pairs.items c.place-place.result c.args.peer ≡ false =
-    ap (λ (l : Pairs). stands_at l c.place-place.result c.args.peer) (sym c.deref-2.ensures.value) ∙ (sym c.stands.ensures ∙ c.if-stands.false) in
-    let n = ap (λ (t : LabelTable). t.peers) c.self.view_is in
-    let items : c.insert.new.self.items ≡ insert c.self.inside.pairs.items c.place-place.result (c.args.peer, c.args.label) = rw c.unwrap.ensures at c.insert.ensures.items in (
-      rw (items, insert_at c.self.inside.pairs.items c.args.peer c.args.label c.place-place.result at is)
-          (put_table 0 _ _ c.args.peer c.args.label c.self.invariant.0 (omega arith) (omega arith) c.requires.label),
-      omega (arith, c.insert.ensures.capacity, c.self.invariant.1),
-    )
-
-pub returns-then-stands-clause-labels : goal.returns-then-stands-clause-labels
-returns-then-stands-clause-labels c =
-    let at : c.place-place.result ≡ place_of c.self.inside.pairs.items c.args.peer = c.place-place.ensures.place ∙ ap (λ (l : Pairs). place_of l c.args.peer) c.deref.ensures.value in
-    let is : stands_at c.self.inside.pairs.items c.place-place.result c.args.peer ≡ true =
-    ap (λ (l : Pairs). stands_at l c.place-place.result c.args.peer) (sym c.deref-2.ensures.value) ∙ (sym c.stands.ensures ∙ c.if-stands.true) in
-    rw (← c.self.view_is) (put_labels _ _ _ _ (set_at c.self.inside.pairs.items c.args.peer c.args.label c.place-place.result at is))
-
-pub returns-else-stands-clause-labels : goal.returns-else-stands-clause-labels
-returns-else-stands-clause-labels c =
-    let at : c.place-place.result ≡ place_of c.self.inside.pairs.items c.args.peer = c.place-place.ensures.place ∙ ap (λ (l : Pairs). place_of l c.args.peer) c.deref.ensures.value in
-    let is : stands_at c.self.inside.pairs.items c.place-place.result c.args.peer ≡ false =
-    ap (λ (l : Pairs). stands_at l c.place-place.result c.args.peer) (sym c.deref-2.ensures.value) ∙ (sym c.stands.ensures ∙ c.if-stands.false) in
-    let items : c.insert.new.self.items ≡ insert c.self.inside.pairs.items c.place-place.result (c.args.peer, c.args.label) = rw c.unwrap.ensures at c.insert.ensures.items in
-    rw (← c.self.view_is) (put_labels _ _ _ _ (items ∙ insert_at c.self.inside.pairs.items c.args.peer c.args.label c.place-place.result at is))
+pub returns-clause-labels : goal.returns-clause-labels
+unfolding label_of
+returns-clause-labels c =
+    let peers = ap (λ (t : LabelTable). t.peers) c.self.view_is in
+    let within : c.args.peer < length c.self.inside.labels.items = omega (arith, peers, c.requires.peer) in
+    fun_ext (label_put c.self.inside.labelled c.with-self-inside.result c.self.inside.labels.items c.args.peer c.index.result c.args.label
+    c.with-self-inside.ensures.added c.with-self-inside.ensures.others c.index.ensures.value within)
+    ∙ ap (λ (t : LabelTable). at_peer c.args.peer c.args.label (find_label t.pairs)) c.self.view_is

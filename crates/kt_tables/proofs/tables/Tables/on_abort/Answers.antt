@@ -9,4 +9,4 @@ pub returns-clause-stands : goal.returns-clause-stands
 returns-clause-stands c = λ calls h.
     let stood = subst (λ (t : State). TablesStandFor t calls) (sym c.self.view_is) h in
     let state = ap (λ (t : State). t.is_tentative) c.self.view_is ∙ c.requires in
-    stands_abort _ calls _ _ _ _ _ stood (speaks_abort calls h.speaks) state c.take-2.ensures.labels c.set_to_later.ensures.labels c.take.ensures.labels c.clear.ensures.labels c.take.ensures.other_labels
+    stands_abort _ calls _ _ _ _ _ stood (speaks_abort calls h.speaks) state c.take-2.ensures.labels c.raise_to.ensures.labels c.take.ensures.labels c.take-2.ensures.other_labels c.take.ensures.other_labels

@@ -1,0 +1,15 @@
+use Rattle.std.proofs.Common.{ap, drop}
+use Rattle.kt_manager.specs.Messages.{Messages}
+use Rattle.kt_manager.proofs.Writing.{read_at, part_changed, part_kept}
+use Rattle.kt_manager.proofs.inbox.Inbox.drop_held.Goals as goal
+
+pub returns-clause-held : goal.returns-clause-held
+returns-clause-held c =
+    let at = read_at _ _ _ _ _ c.self.view_is c.requires c.index.ensures.value c.index_mut-list.ensures.value in
+    rw (← c.self.view_is)
+    (part_changed (λ (m : Messages). m.held) (λ (m : Messages). drop 1 m.held) _ _ _ _ _ at (ap (λ (m : Messages). m.held) c.drop_held.ensures))
+
+pub returns-clause-space : goal.returns-clause-space
+returns-clause-space c =
+    let at = read_at _ _ _ _ _ c.self.view_is c.requires c.index.ensures.value c.index_mut-list.ensures.value in
+    rw (← c.self.view_is) (part_kept (λ (m : Messages). m.space) _ _ _ _ _ at (ap (λ (m : Messages). m.space) c.drop_held.ensures))

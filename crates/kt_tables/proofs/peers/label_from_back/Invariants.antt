@@ -1,9 +1,0 @@
-use Rattle.std.proofs.Common.{◌≡◌, ℕ, length}
-use Rattle.kt_tables.specs.Peers.{find_label, IsTable}
-use Rattle.kt_tables.proofs.peers.label_from_back.Given as goal
-
-abbrev pub invariant-loop-pair : goal.invariant-loop-pair
-invariant-loop-pair l = (n : ℕ) → IsTable 0 n l.pairs → IsTable 0 n l.rest × (find_label l.rest l.peer ≡ find_label l.pairs l.peer)
-
-abbrev pub decreases-loop-pair : goal.decreases-loop-pair
-decreases-loop-pair l = length l.rest

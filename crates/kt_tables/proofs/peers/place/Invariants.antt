@@ -1,6 +1,0 @@
-use Rattle.std.proofs.Common.{◌≡◌, ◌+◌, drop}
-use Rattle.kt_tables.specs.Walks.{place_of}
-use Rattle.kt_tables.proofs.peers.place.Given as goal
-
-abbrev pub invariant-loop-place : goal.invariant-loop-place
-invariant-loop-place l = place_of l.pairs l.peer ≡ l.place + place_of (drop l.place l.pairs) l.peer
